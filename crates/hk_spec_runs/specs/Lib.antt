@@ -1,0 +1,8 @@
+pub mod Desk
+pub mod Replay
+pub mod History
+pub mod Make
+pub mod Words
+pub mod Outcome
+pub mod Examples
+pub mod Built

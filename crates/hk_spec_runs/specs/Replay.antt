@@ -1,0 +1,132 @@
+-- The replay of an input on one thread: what is printed at each byte, and the summary.
+use Rattle.std.specs.Prelude.{ℕ, ◌+◌, not, ◌&&◌, nat_lt, if◌then◌else◌, List, [], ◌∷◌, ◌++◌, map, length, fold, flat_map, find, slice_set, slice_get, zip, Option, Some, None, is_some, option_map, unwrap_or, replicate}
+use Rattle.std.specs.Option.{option_map_or}
+use Rattle.std.specs.List.{enumerate_from}
+use Rattle.hk_base.specs.declared.plain.What.{What}
+use Rattle.hk_base.specs.declared.plain.What.TheVariants.{Refused}
+use Rattle.hk_base.specs.declared.plain.Reason.TheVariants.{NoMemory}
+use Rattle.hk_base.specs.declared.plain.End.{End}
+use Rattle.hk_base.specs.declared.plain.End.TheVariants as ends
+use Rattle.hk_base.specs.declared.plain.OpEnd.{OpEnd}
+use Rattle.hk_base.specs.declared.plain.OpEnd.TheVariants as op_ends
+use Rattle.hk_spec_streams.specs.Pieces.{completed, is_one_of, first_that_holds}
+use Rattle.hk_spec_streams.specs.Station.{station_met, station_wrong, fences}
+use Rattle.hk_spec_streams.specs.Blocks.{Block, blocks}
+use Rattle.hk_spec_streams.specs.Operator.{Command, operator_met, operator_wrong, commands}
+use Rattle.hk_spec_streams.specs.Records.{Arrival, ForStation, ForOperator, arrivals, input_seen}
+use Rattle.hk_spec_matching.specs.Catalogue.{Journal, version}
+use Rattle.hk_spec_matching.specs.Matching.{matches}
+use Rattle.hk_spec_runs.specs.History.{query_of}
+use Rattle.hk_spec_lines.specs.Lines.{Printed, Report, Replied, printed_text, station_line, operator_line}
+use Rattle.hk_spec_runs.specs.Desk.{Rules, Desk, new_desk, refusals, answer, after}
+
+-- a station so far: the bytes that it used, the version of its last look, and its end once it is over
+pub record Listener : Type 0 where
+  pub used : List ℕ
+  pub version : ℕ
+  pub end : Option End
+
+-- the operator so far: the bytes that it used, and its end once it is over
+pub record Clerk : Type 0 where
+  pub used : List ℕ
+  pub end : Option OpEnd
+
+-- the run so far: each station, the operator, the desk, and what was printed
+pub record Scene : Type 0 where
+  pub listeners : List Listener
+  pub clerk : Clerk
+  pub desk : Desk
+  pub printed : List Printed
+
+module _ (rules : Rules) where
+  -- the report of a station's block with its number, at a version of a journal
+  unfoldable pub report : ℕ → Journal → ℕ → ℕ × Block → Printed
+  report station journal v numbered =
+      let block = numbered.1 in
+      Report (record { station = station; block = numbered.0; segment = block.segment; first = block.first; version = v })
+      (matches (query_of block) (version rules.limits journal v))
+
+  -- a station's log: a line for each number in vs, in the order of the blocks
+  unfoldable pub log : ℕ → List Block → List ℕ → Journal → List ℕ
+  log station blocks vs journal = flat_map (λ p. printed_text (report station journal p.1 p.0)) (zip (enumerate_from 0 blocks) vs)
+
+  -- A station's next byte, with the catalogue at version v: it meets a fault, or it may complete blocks, or a fence, which
+  -- is ahead where it asks for more than v.
+  abbrev pub heard : ℕ → Listener → ℕ → Listener
+  heard v l byte =
+      let used = l.used ++ byte ∷ [] in
+      let asked = map (λ fence. fence.asked) (completed fences used) in
+      let looks = length (completed (blocks rules.setting) used) + length asked in
+      option_map_or (λ fault. record l { end = Some (ends.Wire fault) }) (station_met rules.bytes used)
+      (record { used = used; version = if nat_lt 0 looks then v else l.version; end = option_map (λ a. ends.FenceAhead a v) (find (λ a. nat_lt v a) asked) })
+
+  -- the reports of the blocks that a station's byte completes
+  abbrev pub reports : ℕ → Journal → Listener → Listener → List Printed
+  reports station journal before now =
+      if nat_lt (length before.used) (length now.used)
+      then map (report station journal (length journal)) (enumerate_from (length (blocks rules.setting before.used)) (completed (blocks rules.setting) now.used))
+      else []
+
+  -- the answer, or want of memory where the command's number is among the refused ones and its answer is no refusal
+  abbrev pub reply_to : List ℕ → ℕ → Desk → Command → What
+  reply_to refused n desk command =
+      if is_one_of refused n && not (is_some (first_that_holds (refusals rules desk command))) then Refused NoMemory else answer rules desk command
+
+  -- a command with its number
+  abbrev pub obeyed : List ℕ → Scene → ℕ × Command → Scene
+  obeyed refused scene c =
+      let reply = reply_to refused c.0 scene.desk c.1 in
+      record scene { desk = after rules scene.desk c.1 reply; printed = scene.printed ++ Replied c.0 reply ∷ [] }
+
+  abbrev pub for_station : Scene → ℕ → ℕ → Option Listener → Scene
+  for_station scene station byte None = scene
+  for_station scene station byte (Some l) =
+      let now = if is_some l.end then l else heard (length scene.desk.journal) l byte in
+      record scene { listeners = slice_set scene.listeners station now; printed = scene.printed ++ reports station scene.desk.journal l now }
+
+  abbrev pub for_operator : List ℕ → Scene → ℕ → Scene
+  for_operator refused scene byte =
+      let used = scene.clerk.used ++ byte ∷ [] in
+      if is_some scene.clerk.end then scene else
+      option_map_or (λ fault. record scene { clerk = record { used = scene.clerk.used; end = Some (op_ends.Wire fault) } })
+      (operator_met rules.bytes used)
+      (fold (obeyed refused) (record scene { clerk = record { used = used; end = None } })
+      (enumerate_from (length (commands scene.clerk.used) + 1) (completed commands used)))
+
+  -- one byte of the input; a byte for a stream that is over is skipped
+  abbrev pub arrived : List ℕ → Scene → Arrival → Scene
+  arrived refused scene (ForStation station byte) = for_station scene station byte (slice_get scene.listeners station)
+  arrived refused scene (ForOperator byte) = for_operator refused scene byte
+
+  abbrev pub opening : Scene
+  opening = record {
+    listeners = replicate rules.stations (record { used = []; version = 0; end = None });
+    clerk = record { used = []; end = None };
+    desk = new_desk;
+    printed = [];
+  }
+
+  -- the run over the input's bytes up to its first fault
+  unfoldable pub scene_of : List ℕ → List ℕ → Scene
+  scene_of input refused = fold (arrived refused) opening (arrivals (input_seen rules.stations rules.bytes input))
+
+  -- what is printed before the summary
+  abbrev pub out : List ℕ → List ℕ → List ℕ
+  out input refused = flat_map printed_text (scene_of input refused).printed
+
+  -- how a station ends with the input
+  abbrev pub end_of : Listener → End
+  end_of l = unwrap_or l.end (option_map_or (λ fault. ends.Wire fault) (station_wrong rules.bytes l.used) ends.Ended)
+
+  abbrev pub operator_end_of : Clerk → OpEnd
+  operator_end_of clerk = unwrap_or clerk.end (option_map_or (λ fault. op_ends.Wire fault) (operator_wrong rules.bytes clerk.used) op_ends.Ended)
+
+  -- the stations' lines, and then the operator's
+  abbrev pub summary : Scene → List ℕ
+  summary scene =
+      flat_map (λ p. station_line p.0 (length (blocks rules.setting p.1.used)) p.1.version (end_of p.1)) (enumerate_from 0 scene.listeners)
+      ++ operator_line (length (commands scene.clerk.used)) (length scene.desk.journal) (operator_end_of scene.clerk)
+
+  -- all that a replay prints where its input has no fault
+  unfoldable pub replay : List ℕ → List ℕ → List ℕ
+  replay input refused = out input refused ++ summary (scene_of input refused)
