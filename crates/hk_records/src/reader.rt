@@ -1,0 +1,85 @@
+// The reader of an input.
+ghost use Rattle.std.specs.Prelude.{◌≡◌, ◌∷◌, ◌++◌, [], ℕ, List, length};
+
+use crate::part::{Part, after, arrival, is_faulty, record_begin};
+use hk_base::Trouble;
+
+/// What a byte of an input is.
+#[derive(Clone, Copy, Debug, PartialEq, Eq)]
+pub enum Came {
+    /// Part of a record's head.
+    Head,
+    /// A byte of this station's stream.
+    Station { number: u8, byte: u8 },
+    /// A byte of the operator's stream.
+    Operator(u8),
+    /// The input's first fault.
+    Bad(Trouble),
+}
+
+/// Reads an input of records for so many stations, byte after byte, up to its first fault.
+#[derive(Drop)]
+pub struct RecordReader {
+    stations: u8,
+    limit: u64,
+    taken: u64,
+    begun: u64,
+    part: Part,
+}
+
+impl RecordReader {
+    ghost use Rattle.hk_records.specs.Reader.{HasRead, EndsWith, IsGood, came_at, limit_of, stations_of};
+
+    /// Nothing is read yet. An input of over `limit` bytes is too long.
+    pub fn new(stations: u8, limit: u64) -> RecordReader
+        ensures reads { HasRead result [] }
+        ensures stations { stations_of result ≡ stations }
+        ensures limit { limit_of result ≡ limit }
+    {
+        RecordReader {
+            stations,
+            limit,
+            taken: 0,
+            begun: 0,
+            part: Part::Letter,
+        }
+    }
+
+    /// What the next byte is. After `Bad` the reader has no more use.
+    pub fn push(&mut self, byte: u8) -> Came
+        ensures came { (text : List ℕ) → HasRead self.old text → result ≡ came_at (stations_of self.old) (limit_of self.old) (text ++ byte ∷ []) }
+        ensures reads { (text : List ℕ) → HasRead self.old text → IsGood result → HasRead self.new (text ++ byte ∷ []) }
+        ensures stations { stations_of self.new ≡ stations_of self.old }
+        ensures limit { limit_of self.new ≡ limit_of self.old }
+    {
+        if self.taken >= self.limit {
+            return Came::Bad(Trouble::TooLong(self.limit));
+        }
+        let part = self.part;
+        let begun = record_begin(part, self.taken, self.begun);
+        if is_faulty(self.stations, part, byte) {
+            return Came::Bad(Trouble::BadRecord(begun));
+        }
+        self.taken += 1;
+        self.begun = begun;
+        self.part = after(self.stations, part, byte);
+        arrival(part, byte)
+    }
+
+    /// How the input ends here: in order, or inside a record.
+    pub fn finish(&self) -> Result<(), Trouble>
+        ensures { (text : List ℕ) → HasRead self.now text → EndsWith (stations_of self.now) (limit_of self.now) text result }
+    {
+        match self.part {
+            Part::Letter => Ok(()),
+            _ => Err(Trouble::BadRecord(self.begun)),
+        }
+    }
+
+    /// How many bytes were read.
+    pub fn taken(&self) -> u64
+        ensures { (text : List ℕ) → HasRead self.now text → result ≡ length text }
+    {
+        self.taken
+    }
+}
