@@ -14,7 +14,7 @@ use Rattle.hk_spec_streams.specs.Station.{station_met, station_wrong, fences}
 use Rattle.hk_spec_streams.specs.Blocks.{Block, blocks}
 use Rattle.hk_spec_streams.specs.Operator.{Command, operator_met, operator_wrong, commands}
 use Rattle.hk_spec_streams.specs.Records.{Arrival, ForStation, ForOperator, arrivals, input_seen}
-use Rattle.hk_spec_matching.specs.Catalogue.{Journal, version}
+use Rattle.hk_spec_matching.specs.Catalogue.{Songs, Journal, version}
 use Rattle.hk_spec_matching.specs.Matching.{matches}
 use Rattle.hk_spec_runs.specs.History.{query_of}
 use Rattle.hk_spec_lines.specs.Lines.{Printed, Report, Replied, printed_text, station_line, operator_line}
@@ -38,13 +38,16 @@ pub record Scene : Type 0 where
   pub desk : Desk
   pub printed : List Printed
 
+-- the report of a station's block with its number, at a version with these songs
+abbrev pub report_in : ℕ → ℕ → Songs → ℕ × Block → Printed
+report_in station v songs numbered =
+    let block = numbered.1 in
+    Report (record { station = station; block = numbered.0; segment = block.segment; first = block.first; version = v }) (matches (query_of block) songs)
+
 module _ (rules : Rules) where
   -- the report of a station's block with its number, at a version of a journal
   unfoldable pub report : ℕ → Journal → ℕ → ℕ × Block → Printed
-  report station journal v numbered =
-      let block = numbered.1 in
-      Report (record { station = station; block = numbered.0; segment = block.segment; first = block.first; version = v })
-      (matches (query_of block) (version rules.limits journal v))
+  report station journal v numbered = report_in station v (version rules.limits journal v) numbered
 
   -- a station's log: a line for each number in vs, in the order of the blocks
   unfoldable pub log : ℕ → List Block → List ℕ → Journal → List ℕ
@@ -60,12 +63,16 @@ module _ (rules : Rules) where
       option_map_or (λ fault. record l { end = Some (ends.Wire fault) }) (station_met rules.bytes used)
       (record { used = used; version = if nat_lt 0 looks then v else l.version; end = option_map (λ a. ends.FenceAhead a v) (find (λ a. nat_lt v a) asked) })
 
-  -- the reports of the blocks that a station's byte completes
-  abbrev pub reports : ℕ → Journal → Listener → Listener → List Printed
-  reports station journal before now =
+  -- the blocks that a station's byte completes, each with its number
+  abbrev pub new_blocks : Listener → Listener → List (ℕ × Block)
+  new_blocks before now =
       if nat_lt (length before.used) (length now.used)
-      then map (report station journal (length journal)) (enumerate_from (length (blocks rules.setting before.used)) (completed (blocks rules.setting) now.used))
+      then enumerate_from (length (blocks rules.setting before.used)) (completed (blocks rules.setting) now.used)
       else []
+
+  -- their reports
+  abbrev pub reports : ℕ → Journal → Listener → Listener → List Printed
+  reports station journal before now = map (report station journal (length journal)) (new_blocks before now)
 
   -- the answer, or want of memory where the command's number is among the refused ones and its answer is no refusal
   abbrev pub reply_to : List ℕ → ℕ → Desk → Command → What
