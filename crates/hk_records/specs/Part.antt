@@ -1,5 +1,5 @@
 -- What a reader's part says of the open record's bytes, and what one more byte is.
-use Rattle.std.specs.Prelude.{◌≡◌, ℕ, ◌+◌, ◌-◌, ◌<◌, ◌==◌, not, ◌&&◌, ◌||◌, nat_lt, if◌then◌else◌, List, [], ◌∷◌, ◌++◌, length, slice_index, slice_get, Bool}
+use Rattle.std.specs.Prelude.{◌≡◌, ℕ, ◌+◌, ◌-◌, ◌<◌, ◌==◌, not, ◌&&◌, ◌||◌, nat_lt, if◌then◌else◌, List, [], ◌∷◌, ◌++◌, length, slice_index, slice_get, Bool, ⊤}
 use Rattle.std.specs.Int.{w16, from_be_bytes}
 use Rattle.std.specs.Option.{option_map_or}
 use Rattle.hk_spec_streams.specs.Records.{STATION, OPERATOR, Arrival, ForStation, ForOperator, arrival_after, record_size}
@@ -23,6 +23,26 @@ IsPart (parts.High owner) bytes = bytes ≡ head_of owner
 IsPart (parts.Low owner high) bytes = bytes ≡ head_of owner ++ high ∷ []
 IsPart (parts.Body owner left) bytes = (high : ℕ) × (low : ℕ) × (payload : List ℕ) × (bytes ≡ head_of owner ++ high ∷ low ∷ payload)
     × (length payload + left ≡ from_be_bytes w16 (high ∷ low ∷ [])) × (0 < left)
+
+-- the owner is the operator, or one of so many stations
+abbrev pub IsOneOf : ℕ → Owner → Type 0
+IsOneOf stations owners.Operator = ⊤
+IsOneOf stations (owners.Station number) = number < stations
+
+-- the open record's owner is one of them, where it is known by now
+abbrev pub IsKnown : ℕ → Part → Type 0
+IsKnown stations parts.Letter = ⊤
+IsKnown stations parts.Number = ⊤
+IsKnown stations (parts.High owner) = IsOneOf stations owner
+IsKnown stations (parts.Low owner high) = IsOneOf stations owner
+IsKnown stations (parts.Body owner left) = IsOneOf stations owner
+
+-- a byte of a station's stream is one of so many stations'
+abbrev pub IsFor : ℕ → Came → Type 0
+IsFor stations (came.Station number byte) = number < stations
+IsFor stations came.Head = ⊤
+IsFor stations (came.Operator byte) = ⊤
+IsFor stations (came.Bad trouble) = ⊤
 
 -- the same of a record's bytes that may be all of it: then nothing is open
 abbrev pub IsRest : Part → List ℕ → Type 0

@@ -1,10 +1,10 @@
 -- What a reader has read, and what it tells of the last byte.
-use Rattle.std.specs.Prelude.{◌≡◌, ℕ, ◌+◌, List, [], length, Option, Some, None, Result, MatchResult, ⊤, slice_get}
+use Rattle.std.specs.Prelude.{◌≡◌, ℕ, ◌+◌, ◌≤◌, List, [], length, Option, Some, None, Result, MatchResult, ⊤, slice_get}
 use Rattle.std.specs.Option.{option_map_or}
 use Rattle.hk_base.specs.declared.plain.Trouble.{Trouble}
 use Rattle.hk_spec_streams.specs.Pieces.{completed}
 use Rattle.hk_spec_streams.specs.Records.{arrivals, input_fault, input_met, input_wrong, open_bytes}
-use Rattle.hk_records.specs.Part.{IsPart, told}
+use Rattle.hk_records.specs.Part.{IsPart, IsKnown, told}
 use Rattle.hk_records.specs.declared.reader.RecordReader.{RecordReader}
 use Rattle.hk_records.specs.declared.reader.Came.{Came}
 use Rattle.hk_records.specs.declared.reader.Came.TheVariants.{Head, Station, Operator, Bad}
@@ -15,12 +15,15 @@ stations_of reader = reader.stations
 abbrev pub limit_of : RecordReader → ℕ
 limit_of reader = reader.limit
 
--- The reader has read this text, which has no fault: it knows how long it is, where the open record begins, and how far that has come.
+-- The reader has read this text, which has no fault: it knows how long it is, where the open record begins, how far that has come, and
+-- whose it is.
 pub record HasRead (reader : RecordReader) (text : List ℕ) : Type 0 where
   pub taken : reader.taken ≡ length text
+  pub within : reader.taken ≤ reader.limit
   pub no_fault : input_fault reader.stations reader.limit text ≡ None
   pub begun : (open_bytes text ≡ [] → ⊥) → reader.begun + length (open_bytes text) ≡ length text
   pub part : IsPart reader.part (open_bytes text)
+  pub known : IsKnown reader.stations reader.part
 
 -- what the last byte of a text is: its fault, what arrives with it, or part of a head
 abbrev pub came_at : ℕ → ℕ → List ℕ → Came

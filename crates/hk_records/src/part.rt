@@ -1,7 +1,7 @@
 // How far a record has come.
 ghost use Rattle.std.specs.Prelude.{◌≡◌, ◌+◌, ◌∷◌, ◌++◌, [], ℕ, List, length, false};
 ghost use Rattle.std.specs.Int.{w16, from_be_bytes};
-ghost use Rattle.hk_records.specs.Part.{IsPart, IsRest, arrived, has_bad_head, head_of};
+ghost use Rattle.hk_records.specs.Part.{IsFor, IsKnown, IsOneOf, IsPart, IsRest, arrived, has_bad_head, head_of};
 
 use crate::reader::Came;
 
@@ -50,7 +50,8 @@ pub fn is_faulty(stations: u8, part: Part, byte: u8) -> bool
 
 // What the byte is: a byte of the open record's stream, or part of its head.
 pub fn arrival(part: Part, byte: u8) -> Came
-    ensures { (bytes : List ℕ) → IsPart part bytes → result ≡ arrived bytes byte }
+    ensures known { (stations : ℕ) → IsKnown stations part → IsFor stations result }
+    ensures arrived { (bytes : List ℕ) → IsPart part bytes → result ≡ arrived bytes byte }
 {
     match part {
         Part::Body(Owner::Operator, _) => Came::Operator(byte),
@@ -61,7 +62,8 @@ pub fn arrival(part: Part, byte: u8) -> Came
 
 // What comes after a byte that has no fault.
 pub fn after(stations: u8, part: Part, byte: u8) -> Part
-    ensures { (bytes : List ℕ) → IsPart part bytes → has_bad_head stations (bytes ++ byte ∷ []) ≡ false →
+    ensures known { (bytes : List ℕ) → IsPart part bytes → has_bad_head stations (bytes ++ byte ∷ []) ≡ false → IsKnown stations part → IsKnown stations result }
+    ensures rest { (bytes : List ℕ) → IsPart part bytes → has_bad_head stations (bytes ++ byte ∷ []) ≡ false →
         IsRest result (bytes ++ byte ∷ []) }
 {
     match part {
@@ -76,7 +78,8 @@ pub fn after(stations: u8, part: Part, byte: u8) -> Part
 
 // The rest of a record with so many bytes left.
 fn body(owner: Owner, left: u16) -> Part
-    ensures { (high low : ℕ) (payload : List ℕ) → length payload + left ≡ from_be_bytes w16 (high ∷ low ∷ []) →
+    ensures known { (stations : ℕ) → IsOneOf stations owner → IsKnown stations result }
+    ensures rest { (high low : ℕ) (payload : List ℕ) → length payload + left ≡ from_be_bytes w16 (high ∷ low ∷ []) →
         IsRest result (head_of owner ++ high ∷ low ∷ payload) }
 {
     if left == 0 {

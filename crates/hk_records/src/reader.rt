@@ -28,6 +28,7 @@ pub struct RecordReader {
 }
 
 impl RecordReader {
+    ghost use Rattle.hk_records.specs.Part.{IsFor};
     ghost use Rattle.hk_records.specs.Reader.{HasRead, EndsWith, IsGood, came_at, limit_of, stations_of};
 
     /// Nothing is read yet. An input of over `limit` bytes is too long.
@@ -49,6 +50,7 @@ impl RecordReader {
     pub fn push(&mut self, byte: u8) -> Came
         ensures came { (text : List ℕ) → HasRead self.old text → result ≡ came_at (stations_of self.old) (limit_of self.old) (text ++ byte ∷ []) }
         ensures reads { (text : List ℕ) → HasRead self.old text → IsGood result → HasRead self.new (text ++ byte ∷ []) }
+        ensures known { (text : List ℕ) → HasRead self.old text → IsFor (stations_of self.old) result }
         ensures stations { stations_of self.new ≡ stations_of self.old }
         ensures limit { limit_of self.new ≡ limit_of self.old }
     {

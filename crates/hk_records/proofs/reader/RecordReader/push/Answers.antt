@@ -24,7 +24,7 @@ pub returns-clause-came : goal.returns-clause-came
 returns-clause-came c = λ text h.
     let fine : has_bad_head c.args.self.now.stations (open_bytes text ++ c.args.byte ∷ []) ≡ false =
     sym (c.is_faulty.ensures (open_bytes text) h.part) ∙ c.if-is_faulty.false in
-    c.arrival.ensures (open_bytes text) h.part
+    c.arrival.ensures.arrived (open_bytes text) h.part
     ∙ sym (good c.args.self.now.stations c.args.self.now.limit text c.args.byte (omega (arith, h.taken, c.if-self.false)) fine)
 
 pub returns-clause-reads : goal.returns-clause-reads
@@ -37,8 +37,13 @@ returns-clause-reads c = λ text h is_good.
     let longer : length (open_bytes text ++ c.args.byte ∷ []) ≡ length (open_bytes text) + 1 = length-append (open_bytes text) (c.args.byte ∷ []) in
     record {
       taken = omega (arith, h.taken, long);
+      within = omega (arith, c.if-self.false);
+      known = c.after-self.ensures.known (open_bytes text) h.part fine h.known;
       no_fault = stays_good c.args.self.now.stations c.args.self.now.limit text c.args.byte h.no_fault (omega (arith, h.taken, c.if-self.false)) fine;
       begun = λ some. begins_there _ _ (open_bytes text ++ c.args.byte ∷ []) c.record_begin-begun.result (length (text ++ c.args.byte ∷ [])) (open_bytes-append text c.args.byte) some
           (omega (arith, begins, long, longer, h.taken));
-      part = subst (IsPart c.after-self.result) (sym (open_bytes-append text c.args.byte)) (c.after-self.ensures (open_bytes text) h.part fine);
+      part = subst (IsPart c.after-self.result) (sym (open_bytes-append text c.args.byte)) (c.after-self.ensures.rest (open_bytes text) h.part fine);
     }
+
+pub returns-clause-known : goal.returns-clause-known
+returns-clause-known c = λ text h. c.arrival.ensures.known c.args.self.now.stations h.known
