@@ -1,2 +1,2 @@
 mod Bodies
-mod Reading
+pub mod Reading
