@@ -1,0 +1,4 @@
+pub mod Plain
+pub mod Store
+pub mod Scan
+pub mod Inside
