@@ -1,11 +1,11 @@
 -- The plain catalogue, as contracts see it.
-use Rattle.std.specs.Prelude.{ℕ, ◌+◌, ◌-◌, ◌==◌, Bool, nat_le, nat_lt, if◌then◌else◌, List, [], ◌∷◌, length, Option, Some, None}
+use Rattle.std.specs.Prelude.{ℕ, ◌+◌, ◌-◌, ◌==◌, Bool, not, map, filter, nat_le, nat_lt, if◌then◌else◌, List, [], ◌∷◌, length, Option, Some, None}
 use Rattle.hk_base.specs.declared.plain.Reason.{Reason}
 use Rattle.hk_base.specs.declared.plain.Reason.TheVariants.{Duplicate, Short, SongsFull, PositionsFull}
 use Rattle.hk_spec_streams.specs.Pieces.{first_that_holds}
-use Rattle.hk_spec_matching.specs.Catalogue.{Song, Songs, Limits, has_song, with_song, positions_of}
+use Rattle.hk_spec_matching.specs.Catalogue.{Song, Songs, Edit, Add, Limits, has_song, with_song, positions_of}
 use Rattle.hk_spec_matching.specs.Matching.{MOST_ERRORS}
-use Rattle.hk_block.specs.Looker.{Past}
+use Rattle.hk_block.specs.Looker.{Past, ShelfView}
 use Rattle.hk_block.specs.Ring.{BLOCK_SIZE}
 
 -- the songs of the published version, those that a publish would give, the version, and the limits
@@ -51,3 +51,18 @@ after_publish catalogue = record catalogue { published = catalogue.present; vers
 -- the songs of the published version, and nothing of any other
 abbrev pub past_of : Plain → Past
 past_of catalogue v = if v == catalogue.version then Some catalogue.published else None
+
+-- the edits that a publish would publish, by id
+abbrev pub staged_of : Plain → List Edit
+staged_of catalogue = map (λ entry. Add entry.0 entry.1) (filter (λ entry. not (has_song catalogue.published entry.0)) catalogue.present)
+
+-- what it is as a shelf
+abbrev pub shelf_of : Plain → ShelfView
+shelf_of catalogue = record {
+  present = catalogue.present;
+  staged = staged_of catalogue;
+  limits = catalogue.limits;
+  base = (catalogue.version, catalogue.published);
+  journal = None;
+  home = None;
+}

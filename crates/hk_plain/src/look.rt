@@ -2,7 +2,7 @@
 ghost use Rattle.std.specs.Prelude.{◌≡◌, ◌≤◌, [], ◌∷◌, ◌++◌, Some, None, Option, IsTrue, true, option_map, List, ℕ};
 ghost use Rattle.hk_block.specs.Ring.{is_full};
 ghost use Rattle.hk_block.specs.Looker.{KeepsPast, matches_in};
-ghost use Rattle.hk_plain.specs.Plain.{past_of};
+ghost use Rattle.hk_plain.specs.Plain.{past_of, shelf_of};
 
 use crate::PlainCatalogue;
 use hk_block::{BlockRing, Looker, Scratch, Steps};
@@ -19,7 +19,7 @@ impl Looker for PlainCatalogue {
 
     ghost shown = { λ c. None };
 
-    ghost shelf = { λ c. None };
+    ghost shelf = { λ c. Some (shelf_of c) };
 
     ghost still = { λ c. true };
 
