@@ -1,19 +1,16 @@
 -- A wire after one more byte.
-use Rattle.std.proofs.Common.{◌≡◌, ℕ, ◌+◌, ◌<◌, List, [], ◌∷◌, ◌++◌, length, refl, sym, ◌∙◌, ap, subst, arith, length-append, Option, Some, None}
-use Rattle.std.specs.Prelude.{Ok, Err, Result, Bool, if◌then◌else◌}
-use Rattle.std.specs.Option.{option_map_or, option_or}
+use Rattle.std.proofs.Common.{◌≡◌, ℕ, ◌+◌, List, [], ◌∷◌, ◌++◌, length, sym, ◌∙◌, ap, arith, length-append, Some, None}
+use Rattle.std.specs.Prelude.{Ok, Err}
+use Rattle.std.specs.Option.{option_map_or}
 use Rattle.hk_base.specs.declared.plain.WireFault.{WireFault}
-use Rattle.hk_base.specs.declared.plain.WireFault.TheVariants.{Cut}
-use Rattle.hk_spec_streams.specs.Pieces.{fault_of, seen_of}
-use Rattle.hk_spec_streams.specs.Grammar.{ends_at_start}
-use Rattle.hk_spec_streams.specs.Station.{station_grammar, station_met, station_fault, station_seen, station_wrong}
+use Rattle.hk_spec_streams.specs.Station.{station_met, station_fault, station_seen}
 use Rattle.hk_spec_streams.proofs.NextFault.{seen_of-all, fault_of-none, fault_of-some, fault_of-stays}
 use Rattle.hk_station_wire.specs.declared.item.Item.{Item}
 use Rattle.hk_station_wire.specs.declared.item.Item.TheVariants.{Fault}
 use Rattle.hk_station_wire.specs.declared.reader.Reader.{Reader}
 use Rattle.hk_station_wire.specs.declared.wire.Wire.{Wire}
 use Rattle.hk_station_wire.specs.Items.{item_at, item_of}
-use Rattle.hk_station_wire.specs.Taken.{HasTaken, StandsAfter, Brings}
+use Rattle.hk_station_wire.specs.Taken.{HasTaken, Brings}
 
 -- where no fault was met, the whole text was taken
 pub taken_all : (wire : Wire) (text : List ℕ) → HasTaken wire text → wire.fault ≡ None → wire.taken ≡ length text
@@ -76,15 +73,3 @@ fault_taken wire new text b fault has none brings same_limit same_taken kept =
       taken = same_taken ∙ taken_all wire text has none ∙ sym (ap (λ limit. length (station_seen limit t)) same_limit ∙ ap length wrong.1);
       stands = λ still. absurd (let odd : Some fault ≡ None = sym kept ∙ still in cc);
     }
-
--- the end of the stream
-pub wrong_kept : (wire : Wire) (text : List ℕ) (fault : WireFault) → HasTaken wire text → wire.fault ≡ Some fault → Some fault ≡ station_wrong wire.limit text
-wrong_kept wire text fault has is =
-    sym (ap (λ o. option_or o (if ends_at_start station_grammar text then None else Some (Cut (length text)))) (sym has.fault ∙ is))
-
-pub wrong_at_end : (wire : Wire) (text : List ℕ) (c : Bool) → HasTaken wire text → wire.fault ≡ None → ends_at_start station_grammar text ≡ c
-    → (if c then None else Some (Cut wire.taken)) ≡ station_wrong wire.limit text
-wrong_at_end wire text c has none is =
-    ap (λ n. if c then None else Some (Cut n)) (taken_all wire text has none)
-    ∙ sym (ap (λ o. option_or o (if ends_at_start station_grammar text then None else Some (Cut (length text)))) (sym has.fault ∙ none)
-    ∙ ap (λ d. if d then None else Some (Cut (length text))) is)

@@ -1,4 +1,5 @@
 pub mod Held
 pub mod Items
+pub mod Says
 pub mod Steps
 pub mod Taken

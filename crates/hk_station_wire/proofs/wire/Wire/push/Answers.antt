@@ -1,4 +1,4 @@
-use Rattle.std.proofs.Common.{◌≡◌, ◌∙◌, ◌+◌, ap, sym, refl, None}
+use Rattle.std.proofs.Common.{◌∙◌, ◌+◌, ap, refl}
 use Rattle.hk_station_wire.proofs.Push.{taken_all, kept_item, kept_taken, item_brought, item_taken, fault_brought, fault_taken}
 use Rattle.hk_station_wire.proofs.wire.Wire.push.Goals as goal
 
