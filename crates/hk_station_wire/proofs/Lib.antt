@@ -3,6 +3,7 @@ pub mod Parts
 pub mod LastItems
 pub mod InHello
 pub mod Behind
+pub mod StillKept
 pub mod Push
 pub mod WellFormed
 pub mod OpenGap

@@ -1,4 +1,5 @@
 pub mod Held
+pub mod Kept
 pub mod Items
 pub mod Says
 pub mod Steps
