@@ -239,19 +239,17 @@ module _ (limit : ℕ) (text : List ℕ) (b : ℕ) (reader : Reader) (place coun
         subst P (sym made) brings_print
 
 -- a reader whose packet has taken the next byte
-pub has_byte : (text : List ℕ) (b : ℕ) (old new : Reader) → 6 ≤ length text → length text < 2 ^ 64 - 1 → StandsAfter old text
+pub has_byte : (text : List ℕ) (b : ℕ) (old new : Reader) → 6 ≤ length text → StandsAfter old text
     → new.form ≡ old.form → new.group ≡ old.group → length_size old.packet ≡ Two
-    → ((bytes : List ℕ) → length bytes < 2 ^ 64 - 1 → IsLast old.packet bytes
-    → IsLast new.packet (if is_over (length_size old.packet) bytes then b ∷ [] else bytes ++ b ∷ []))
+    → ((bytes : List ℕ) → IsLast old.packet bytes → IsLast new.packet (if is_over (length_size old.packet) bytes then b ∷ [] else bytes ++ b ∷ []))
     → HasByte new text b
-has_byte text b old new late room stands same_form same_group two pushed =
+has_byte text b old new late stands same_form same_group two pushed =
     let packet_now : List ℕ = last_packet text in
-    let short : length (last_packet text) ≤ length text = last_packet-le text in
     let P : LengthSize → Type 0 = λ size. IsLast new.packet (cond (is_over size packet_now) (b ∷ []) (packet_now ++ b ∷ [])) in
     let Q : List ℕ → Type 0 = IsLast new.packet in
     record {
       channels = ap (λ form. form.channels) same_form ∙ stands.channels (omega arith);
       factor = ap (λ form. form.factor) same_form ∙ stands.factor (omega arith);
-      packet = subst Q (sym (last_packet-next text b late)) (subst P two (pushed packet_now (omega (arith, short, room)) stands.packet));
+      packet = subst Q (sym (last_packet-next text b late)) (subst P two (pushed packet_now stands.packet));
       group = ap gathered same_group ∙ stands.group;
     }

@@ -6,7 +6,7 @@ use Rattle.std.proofs.lemmas.Bool.Decides.{leb_tells}
 use Rattle.std.proofs.Math.Seq.{take-append_seam, get_or-append_seam}
 use Rattle.std.specs.Prelude.{◌&&◌, ◌==◌, nat_lt, not, slice_index_or}
 use Rattle.std.specs.Option.{option_or}
-use Rattle.std.specs.Int.{w16, from_be_bytes}
+use Rattle.std.specs.Int.{w16, w32, from_be_bytes}
 use Rattle.std.specs.List.{list_any}
 use Rattle.hk_base.specs.declared.plain.WireFault.{WireFault}
 use Rattle.hk_base.specs.declared.plain.WireFault.TheVariants.{BadHello, BadKind, BadLength, BadMask, TooLong}
@@ -154,6 +154,13 @@ be_two : (bytes : List ℕ) → from_be_bytes w16 (take 2 bytes) ≡ from_be_byt
 be_two [] = refl
 be_two (a ∷ []) = refl
 be_two (a ∷ b ∷ bytes) = refl
+
+pub be_four : (bytes : List ℕ) → from_be_bytes w32 (take 4 bytes) ≡ from_be_bytes w32 bytes
+be_four [] = refl
+be_four (a ∷ []) = refl
+be_four (a ∷ b ∷ []) = refl
+be_four (a ∷ b ∷ c ∷ []) = refl
+be_four (a ∷ b ∷ c ∷ d ∷ bytes) = refl
 
 pub length_in_two : (bytes : List ℕ) → length_in Two bytes ≡ from_be_bytes w16 (drop 1 bytes)
 length_in_two bytes = be_two (drop 1 bytes)

@@ -4,12 +4,16 @@ use Rattle.hk_base.specs.declared.plain.WireFault.{WireFault}
 use Rattle.hk_station_wire.specs.declared.item.Item.{Item}
 use Rattle.hk_station_wire.specs.declared.reader.Reader.{Reader}
 use Rattle.hk_station_wire.specs.declared.wire.Wire.{Wire}
-use Rattle.hk_station_wire.specs.Held.{gathered, IsLast}
+use Rattle.hk_station_wire.specs.Held.{gathered, IsLast, count_of}
 use Rattle.hk_station_wire.specs.Kept.{Keeps}
 use Rattle.hk_station_wire.specs.Items.{item_of, carries_prints}
 use Rattle.hk_spec_sound.specs.Groups.{rest_of}
 use Rattle.hk_spec_streams.specs.Station.{channels_of, factor_of, station_met, station_fault, station_seen}
 use Rattle.hk_spec_streams.specs.LastPacket.{last_packet, last_segment}
+
+-- how many bytes of the last packet came
+abbrev pub packet_count : Reader → ℕ
+packet_count reader = count_of reader.packet
 
 -- what the last segment has beyond its whole prints, where the stream carries prints
 abbrev pub unfinished_print : List ℕ → List ℕ
