@@ -1,5 +1,5 @@
 -- What is kept of the last packet.
-use Rattle.std.specs.Prelude.{◌≡◌, ℕ, ◌+◌, ◌==◌, Bool, ◌||◌, List, length, take, drop}
+use Rattle.std.specs.Prelude.{◌≡◌, ℕ, ◌==◌, Bool, ◌||◌, List, length, take, drop}
 use Rattle.std.specs.Int.{Width, w16, w32, byte_len, from_be_bytes}
 use Rattle.hk_station_wire.specs.declared.gathered.Gathered.{Gathered}
 use Rattle.hk_station_wire.specs.declared.packet.LengthSize.{LengthSize}
@@ -17,6 +17,10 @@ width_of Four = w32
 
 abbrev pub length_size : LastPacket → LengthSize
 length_size packet = packet.size
+
+-- how many bytes of the packet came
+abbrev pub count_of : LastPacket → ℕ
+count_of packet = packet.count
 
 -- the packet's length, where bytes that aren't there count as 0
 abbrev pub length_in : LengthSize → List ℕ → ℕ

@@ -33,10 +33,11 @@ pub struct Reader {
 }
 
 impl Reader {
-    ghost use Rattle.hk_station_wire.specs.Taken.{StandsAfter, Brings, HasByte};
+    ghost use Rattle.hk_station_wire.specs.Taken.{StandsAfter, Brings, HasByte, packet_count};
 
     pub fn new() -> Reader
-        ensures { StandsAfter result [] }
+        ensures stands { StandsAfter result [] }
+        ensures none { packet_count result ≡ 0 }
     {
         Reader {
             form: Form {
@@ -50,9 +51,11 @@ impl Reader {
 
     /// Takes the byte at this place: what it brings, or the fault that it meets.
     pub fn take(&mut self, place: u64, byte: u8) -> Result<Item, WireFault>
-        requires { place < 2 ^ 64 - 1 }
-        ensures { (limit : ℕ) (text : List ℕ) → place ≡ length text → place < limit → StandsAfter self.old text
+        requires room { place < 2 ^ 64 - 1 }
+        requires within { packet_count self.old ≤ place }
+        ensures brings { (limit : ℕ) (text : List ℕ) → place ≡ length text → place < limit → StandsAfter self.old text
             → Brings result self.new limit (text ++ byte ∷ []) }
+        ensures within { packet_count self.new ≤ place + 1 }
     {
         if place < HELLO_SIZE {
             self.take_hello(place, byte)
@@ -71,7 +74,8 @@ impl Reader {
 
     fn take_hello(&mut self, place: u64, byte: u8) -> Result<Item, WireFault>
         requires { place < 6 }
-        ensures { (limit : ℕ) (text : List ℕ) → place ≡ length text → place < limit → StandsAfter self.old text
+        ensures same_packet { packet_count self.new ≡ packet_count self.old }
+        ensures brings { (limit : ℕ) (text : List ℕ) → place ≡ length text → place < limit → StandsAfter self.old text
             → Brings result self.new limit (text ++ byte ∷ []) }
     {
         if !hello_allows(place, self.form.channels, byte) {
@@ -91,7 +95,8 @@ impl Reader {
     // The same behind the hello, where the last packet has the byte already.
     fn take_packet(&mut self, place: u64, byte: u8) -> Result<Item, WireFault>
         requires { 6 ≤ place }
-        ensures { (limit : ℕ) (text : List ℕ) → place ≡ length text → place < limit → HasByte self.old text byte
+        ensures same_packet { packet_count self.new ≡ packet_count self.old }
+        ensures brings { (limit : ℕ) (text : List ℕ) → place ≡ length text → place < limit → HasByte self.old text byte
             → Brings result self.new limit (text ++ byte ∷ []) }
     {
         let count = self.packet.count();

@@ -1,8 +1,9 @@
 // The wire of a station's stream.
-ghost use Rattle.std.specs.Prelude.{◌≡◌, ◌<◌, ◌≤◌, ◌++◌, ℕ, List, [], ◌∷◌, length, Some, OnOk};
+ghost use Rattle.std.specs.Prelude.{◌≡◌, ◌≤◌, ◌++◌, ℕ, List, [], ◌∷◌, length, Some, None};
 ghost use Rattle.std.specs.Result.{result_err};
 ghost use Rattle.hk_base.specs.declared.plain.WireFault.{WireFault};
 ghost use Rattle.hk_spec_streams.specs.Station.{station_wrong, station_seen};
+ghost use Rattle.hk_station_wire.specs.Held.{count_of};
 
 use crate::item::Item;
 use crate::reader::Reader;
@@ -16,10 +17,11 @@ pub struct Wire {
     reader: Reader,
     fault: Option<WireFault>,
     ghost within: { taken ≤ limit },
+    ghost begun: { fault ≡ None → count_of reader.packet ≤ taken },
 }
 
 impl Wire {
-    ghost use Rattle.hk_station_wire.specs.Taken.{HasTaken, StandsAfter, Brings, limit_of, fault_met};
+    ghost use Rattle.hk_station_wire.specs.Taken.{HasTaken, limit_of, fault_met};
     ghost use Rattle.hk_station_wire.specs.Items.{item_at};
 
     /// A wire that has taken nothing, and takes at most `limit` bytes.
@@ -44,10 +46,25 @@ impl Wire {
         ensures same_fault { (fault : WireFault) → fault_met self.old ≡ Some fault → result ≡ Item.Fault fault }
         ensures fault_changes_nothing { (fault : WireFault) → fault_met self.old ≡ Some fault → self.new ≡ self.old }
     {
-        if let Some(fault) = self.fault {
+        match self.fault {
+            Some(fault) => Item::Fault(fault),
+            None => self.take(byte),
+        }
+    }
+
+    // Takes the next byte where no fault was met.
+    fn take(&mut self, byte: u8) -> Item
+        requires { fault_met self.old ≡ None }
+        ensures item { (text : List ℕ) → HasTaken self.old text → result ≡ item_at (limit_of self.old) (text ++ byte ∷ []) }
+        ensures taken { (text : List ℕ) → HasTaken self.old text → HasTaken self.new (text ++ byte ∷ []) }
+        ensures limit_stays { limit_of self.new ≡ limit_of self.old }
+    {
+        if self.taken == self.limit {
+            let fault = WireFault::TooLong(self.limit);
+            self.fault = Some(fault);
             return Item::Fault(fault);
         }
-        match self.outcome(byte) {
+        match self.reader.take(self.taken, byte) {
             Ok(item) => {
                 self.taken += 1;
                 item
@@ -57,20 +74,6 @@ impl Wire {
                 Item::Fault(fault)
             }
         }
-    }
-
-    fn outcome(&mut self, byte: u8) -> Result<Item, WireFault>
-        ensures reads { (text : List ℕ) → self.old.taken ≡ length text → StandsAfter self.old.reader text
-            → Brings result self.new.reader self.old.limit (text ++ byte ∷ []) }
-        ensures room { OnOk result (self.old.taken < self.old.limit) }
-        ensures limit_stays { self.new.limit ≡ self.old.limit }
-        ensures taken_stays { self.new.taken ≡ self.old.taken }
-        ensures fault_stays { self.new.fault ≡ self.old.fault }
-    {
-        if self.taken == self.limit {
-            return Err(WireFault::TooLong(self.limit));
-        }
-        self.reader.take(self.taken, byte)
     }
 
     /// Whether the stream may end here: Ok at a packet's border behind the hello, and else the fault that was met, or

@@ -1,4 +1,4 @@
-use Rattle.std.proofs.Common.{◌≡◌, ℕ, ◌∙◌, ◌+◌, ◌-◌, ap, refl, arith, take, drop, List, [], ◌∷◌, suc}
+use Rattle.std.proofs.Common.{◌≡◌, ℕ, ◌∙◌, ◌+◌, ◌-◌, ap, sym, refl, arith, take, drop, List, [], ◌∷◌, suc}
 use Rattle.std.proofs.lemmas.List.{drop-take}
 use Rattle.std.specs.Int.{w32, from_be_bytes}
 use Rattle.hk_station_wire.proofs.packet.LastPacket.number.Goals as goal
@@ -17,4 +17,4 @@ returns c bytes is =
     c.number.ensures ∙ ap (λ first. from_be_bytes w32 (drop p first)) is.first
     ∙ ap (λ n. from_be_bytes w32 (drop p (take n bytes))) room
     ∙ ap (from_be_bytes w32) (drop-take p (suc (suc (suc (suc (8 - p))))) bytes)
-    ∙ first_four (8 - p) (drop p bytes)
+    ∙ first_four (8 - p) (drop p bytes) ∙ sym (first_four 0 (drop p bytes))
