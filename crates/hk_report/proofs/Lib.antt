@@ -1,2 +1,6 @@
 mod Fronts
 mod Writing
+mod Numbers
+mod Stopping
+mod Parts
+mod Places
