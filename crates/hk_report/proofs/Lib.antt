@@ -2,5 +2,6 @@ mod Fronts
 mod Writing
 mod Numbers
 mod Stopping
-mod Parts
+mod Items
+mod Heads
 mod Places

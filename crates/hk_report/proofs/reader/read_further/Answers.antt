@@ -1,7 +1,7 @@
 use Rattle.std.proofs.Common.{◌++◌, [], ◌∷◌, List, refl}
 use Rattle.hk_base.specs.declared.plain.Match.{Match}
 use Rattle.hk_report.proofs.Stopping.{stopped}
-use Rattle.hk_report.proofs.Parts.{all_fit-append, one_further, in_item, in_line_end}
+use Rattle.hk_report.proofs.Items.{all_fit-append, one_further, in_item, in_line_end}
 use Rattle.hk_report.proofs.reader.read_further.Goals as goal
 
 -- the first item is kept

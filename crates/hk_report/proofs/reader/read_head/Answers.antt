@@ -1,5 +1,5 @@
 use Rattle.hk_report.proofs.Stopping.{stopped}
-use Rattle.hk_report.proofs.Parts.{in_station, behind_station, in_block, behind_block, in_segment, behind_segment, in_first, behind_first, in_version, behind_version, in_colon}
+use Rattle.hk_report.proofs.Heads.{in_station, behind_station, in_block, behind_block, in_segment, behind_segment, in_first, behind_first, in_version, behind_version, in_colon}
 use Rattle.hk_report.proofs.reader.read_head.Goals as goal
 
 -- left in the station

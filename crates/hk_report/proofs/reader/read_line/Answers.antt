@@ -1,7 +1,7 @@
 use Rattle.std.proofs.Common.{refl}
 use Rattle.hk_report.specs.Reports.{IsReport}
 use Rattle.hk_report.proofs.Stopping.{stops_none}
-use Rattle.hk_report.proofs.Parts.{behind_head, report_from, one_reading}
+use Rattle.hk_report.proofs.Heads.{behind_head, report_from, one_reading}
 use Rattle.hk_report.proofs.Places.{bad_place}
 use Rattle.hk_report.proofs.reader.read_line.Goals as goal
 

@@ -2,7 +2,7 @@ use Rattle.std.proofs.Common.{◌++◌, ◌∷◌, ap, ◌∙◌, sym, append_as
 use Rattle.hk_spec_lines.specs.Lines.{match_text, NEWLINE}
 use Rattle.hk_report.specs.Pieces.{further_items}
 use Rattle.hk_report.proofs.Stopping.{stopped}
-use Rattle.hk_report.proofs.Parts.{in_none, in_first_item, behind_first_item}
+use Rattle.hk_report.proofs.Items.{in_none, in_first_item, behind_first_item}
 use Rattle.hk_report.proofs.reader.read_list.Goals as goal
 
 -- left in `none`
