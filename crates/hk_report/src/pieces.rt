@@ -1,5 +1,4 @@
 // Lines are written in pieces: texts and numbers.
-ghost use Rattle.std.specs.Prelude.{◌≡◌};
 ghost use Rattle.hk_report.specs.Pieces.{Writes, piece_text, pieces_text, texts};
 
 use crate::hexadecimal::digits;

@@ -1,5 +1,5 @@
 // Words, numbers and fields, each at the front of the bytes that are left.
-ghost use Rattle.std.specs.Prelude.{◌≡◌, ◌+◌, ◌*◌, ◌^◌, ◌<◌, ◌≤◌, ◌∷◌, ◌++◌, ℕ, List, decimal, IfOk, IfErr, MatchOption, ◌⊎◌};
+ghost use Rattle.std.specs.Prelude.{◌≡◌, ◌+◌, ◌*◌, ◌<◌, ◌≤◌, ◌∷◌, ◌++◌, ℕ, List, decimal, IfOk, IfErr, MatchOption, ◌⊎◌};
 ghost use Rattle.hk_report.specs.Reading.{IsCut, LeavesWord, LeavesNumber, LeavesField, StopsBefore, Differs};
 ghost use Rattle.std.specs.Bool.{MatchBool};
 
