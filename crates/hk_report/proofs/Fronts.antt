@@ -1,9 +1,9 @@
 -- Fronts of a text, and texts written one after another.
-use Rattle.std.proofs.Common.{◌≡◌, ℕ, ◌+◌, ◌-◌, ◌<◌, List, [], ◌++◌, Option, take, drop, get_or, length, sym, ◌∙◌, ap, subst, append_assoc, length-append, arith, length-drop}
+use Rattle.std.proofs.Common.{◌≡◌, ℕ, suc, ◌+◌, ◌-◌, ◌<◌, List, [], ◌∷◌, ◌++◌, Option, take, drop, get_or, length, sym, ◌∙◌, ap, subst, append_assoc, length-append, arith, length-drop}
 use Rattle.std.specs.List.{flat_map}
 use Rattle.std.proofs.lemmas.List.{take_rest, take-append-drop, take_more, flat_map_more}
 use Rattle.std.proofs.lemmas.Grind.{flat_map-append}
-use Rattle.std.proofs.Math.Seq.{take-add}
+use Rattle.std.proofs.Math.Seq.{take-add, drop-cons}
 use Rattle.hk_base.specs.Devices.{Wrote}
 use Rattle.hk_base.proofs.Taking.{Wrote-append}
 use Rattle.hk_report.specs.Fronts.{WroteFront}
@@ -41,3 +41,9 @@ torn_at f xs i d x y z h first second =
     subst (λ text. WroteFront text x z)
     (ap (λ t. t ++ flat_map f (drop (i + 1) xs)) (one_more f xs i d h) ∙ sym (flat_map-append f (take (i + 1) xs) (drop (i + 1) xs)) ∙ ap (flat_map f) (take-append-drop (i + 1) xs))
     (front_then (flat_map f (take i xs) ++ f (get_or xs i d)) (flat_map f (drop (i + 1) xs)) x z (then_front (flat_map f (take i xs)) (f (get_or xs i d)) x y z first second))
+
+-- a list by its item at a place
+pub at_place : (xs : List ℕ) (i : ℕ) → i < length xs → xs ≡ take i xs ++ get_or xs i 0 ∷ drop (i + 1) xs
+at_place xs i h =
+    let next : suc i ≡ i + 1 = omega arith in
+    sym (take-append-drop i xs) ∙ ap (λ t. take i xs ++ t) (drop-cons xs i 0 h ∙ ap (λ k. get_or xs i 0 ∷ drop k xs) next)

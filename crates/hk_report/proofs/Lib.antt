@@ -1,2 +1,7 @@
 mod Fronts
 mod Writing
+mod Numbers
+mod Stopping
+mod Items
+mod Heads
+mod Places

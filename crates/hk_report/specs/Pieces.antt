@@ -5,10 +5,10 @@ use Rattle.std.specs.List.{flat_map}
 use Rattle.hk_base.specs.Devices.{Wrote, Rose}
 use Rattle.hk_base.specs.declared.plain.Head.{Head}
 use Rattle.hk_base.specs.declared.plain.Match.{Match}
-use Rattle.hk_spec_lines.specs.Lines.{numbered, match_text}
+use Rattle.hk_spec_lines.specs.Lines.{numbered, match_text, hexadecimal}
 use Rattle.hk_report.specs.Fronts.{WroteFront}
 use Rattle.hk_report.specs.declared.pieces.Piece.{Piece}
-use Rattle.hk_report.specs.declared.pieces.Piece.TheVariants.{Text, Number, Numbered, NumberedTwice}
+use Rattle.hk_report.specs.declared.pieces.Piece.TheVariants.{Text, Number, Numbered, NumberedTwice, Hexadecimal}
 
 -- What the call of a writer of this text did: what was written and the count of faults, before and after it.
 pub record Writes {T E : Type 0} (text : List ℕ) (result : Result T E) (old : Option (List ℕ)) (before : ℕ) (new : Option (List ℕ)) (now : ℕ) : Type 0 where
@@ -27,6 +27,7 @@ piece_text (Text text) = text.now
 piece_text (Number n) = decimal n
 piece_text (Numbered word n) = numbered word.now n
 piece_text (NumberedTwice word m n) = numbered (numbered word.now m) n
+piece_text (Hexadecimal n) = hexadecimal n
 
 -- the pieces one after another
 abbrev pub pieces_text : List Piece → List ℕ

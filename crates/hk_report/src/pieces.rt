@@ -1,7 +1,7 @@
 // Lines are written in pieces: texts and numbers.
-ghost use Rattle.std.specs.Prelude.{◌≡◌};
 ghost use Rattle.hk_report.specs.Pieces.{Writes, piece_text, pieces_text, texts};
 
+use crate::hexadecimal::digits;
 use hk_base::{Failed, Sink};
 use itoa::Buffer;
 
@@ -12,6 +12,7 @@ pub enum Piece<'a> {
     Number(u64),
     Numbered(&'a [u8], u64),
     NumberedTwice(&'a [u8], u64, u64),
+    Hexadecimal(u32),
 }
 
 // Writes the text, by as many writes as the sink needs.
@@ -50,6 +51,7 @@ fn write_piece<K: Sink>(sink: &mut K, piece: &Piece<'_>) -> Result<(), Failed>
         Piece::Numbered(word, n) => {
             write_texts(sink, &[*word, b" ", first.format(*n).as_bytes()])
         }
+        Piece::Hexadecimal(n) => write_text(sink, &digits(*n)),
         Piece::NumberedTwice(word, m, n) => write_texts(
             sink,
             &[

@@ -1,0 +1,99 @@
+// Each kind of line once, the texts by hand.
+use crate::*;
+use hk_base::MemorySink;
+use std::test::Fail;
+
+#[test]
+fn each_line(rt: HostRuntime) -> Result<(), Fail> {
+    let alloc = rt.alloc();
+    let mut sink = MemorySink::new(alloc, 1000, Vec::new(alloc))?;
+    let head = Head {
+        station: 63,
+        block: 12,
+        segment: 1,
+        first: 64,
+        version: 2,
+    };
+    let found = [
+        Match {
+            id: 7,
+            start: 0,
+            errors: 2867,
+        },
+        Match {
+            id: 8,
+            start: 1,
+            errors: 0,
+        },
+    ];
+    let reply = Reply {
+        number: 15,
+        what: What::Refused(Reason::VersionsFull),
+    };
+    let print = Print {
+        word: 0xdead0042,
+        mask: 15,
+    };
+    write_line(&mut sink, &head, &found)?;
+    write_line(&mut sink, &head, &[])?;
+    write_reply(&mut sink, &reply)?;
+    write_station(&mut sink, 0, 1, 2, &End::FenceAhead(9, 2))?;
+    write_operator(&mut sink, 3, 2, &OpEnd::Wire(WireFault::Cut(100)))?;
+    write_mismatch(&mut sink, 3, 1, 2)?;
+    write_trouble(&mut sink, &Trouble::BadRecord(5))?;
+    write_print(&mut sink, 255, &print)?;
+    let text = b"S 63 B 12 G 1 W 64 V 2: 7@0~2867 8@1~0\n\
+        S 63 B 12 G 1 W 64 V 2: none\n\
+        O 15 refused versions-full\n\
+        T S 0 1 2 fence-ahead 9 2\n\
+        T O 3 2 cut 100\n\
+        T M 3 1 2\n\
+        R bad-record 5\n\
+        255 dead0042 0000000f\n";
+    assert_eq!(rt; sink.written(), text.as_slice());
+    Ok(())
+}
+
+#[test]
+fn a_full_sink(rt: HostRuntime) -> Result<(), Fail> {
+    let alloc = rt.alloc();
+    let mut sink = MemorySink::new(alloc, 5, Vec::new(alloc))?;
+    assert_eq!(rt; write_mismatch(&mut sink, 3, 1, 2), Err(Failed));
+    assert_eq!(rt; sink.written(), b"T M 3".as_slice());
+    Ok(())
+}
+
+#[test]
+fn a_report_line(rt: HostRuntime) -> Result<(), Fail> {
+    let text = b"S 63 B 12 G 0 W 64 V 1: 8@1~0 7@0~2867 8@1~0\n";
+    let (head, items) = read_line(rt.alloc(), text)?;
+    let last = Match {
+        id: 8,
+        start: 1,
+        errors: 0,
+    };
+    assert_eq!(rt; (head.station, head.block, head.segment), (63, 12, 0));
+    assert_eq!(rt; (head.first, head.version, items.len()), (64, 1, 3));
+    assert_eq!(rt; (items[0], items[2]), (last, last));
+    Ok(())
+}
+
+#[test]
+fn other_texts(rt: HostRuntime) {
+    let texts: [(&[u8], usize); 8] = [
+        (b"", 0),
+        (b"S 00", 3),
+        (b"S 256", 4),
+        (b"S 0 B 18446744073709551616", 25),
+        (b"S 0 B 0 G 0 W 0 V 1: 7@0~0", 26),
+        (b"S 0 B 0 G 0 W 0 V 1: 7@0~0 \n", 27),
+        (b"S 0 B 0 G 0 W 0 V 1: nono", 24),
+        (b"S 0 B 0 G 0 W 0 V 1: none\nS", 26),
+    ];
+    for (text, place) in texts {
+        match read_line(rt.alloc(), text) {
+            Ok(_) => assert!(rt; false, "{place}"),
+            Err(fault) => assert_eq!(rt; fault, LineFault::BadLine(place)),
+        }
+    }
+}
