@@ -13,6 +13,9 @@ use hk_block::{BlockRing, Scratch};
 use std::alloc::Global;
 use std::marker::Model;
 
+// A song has enough words for a block.
+const SHORTEST_SONG: u64 = 256;
+
 /// Recordings by rising id, those that are published and those that a publish would publish.
 #[derive(Drop)]
 pub struct PlainCatalogue {
@@ -75,7 +78,7 @@ impl PlainCatalogue {
     {
         if self.has(id) {
             Some(Reason::Duplicate)
-        } else if words < 256 {
+        } else if words < SHORTEST_SONG {
             Some(Reason::Short)
         } else if self.songs as usize <= self.present.len() {
             Some(Reason::SongsFull)
@@ -138,7 +141,7 @@ impl PlainCatalogue {
     }
 
     // Appends the published songs' matches with the ring's prints.
-    pub fn list_matches(&self, ring: &BlockRing, scratch: &mut Scratch)
+    pub(crate) fn list_matches(&self, ring: &BlockRing, scratch: &mut Scratch)
         requires full { IsTrue (is_full ring.now) }
         requires space { length scratch.old.matches + self.now.limits.positions ≤ scratch.old.room }
         ensures list { scratch.new.matches ≡ scratch.old.matches ++ matches_in ring.now self.now.published }

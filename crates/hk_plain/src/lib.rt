@@ -10,5 +10,7 @@ mod catalogue;
 mod entry;
 mod look;
 mod scan;
+#[cfg(test)]
+mod tests;
 
 pub use catalogue::PlainCatalogue;

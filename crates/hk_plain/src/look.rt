@@ -30,13 +30,23 @@ impl Looker for PlainCatalogue {
         ring: &BlockRing,
         scratch: &mut Scratch,
         steps: &mut Steps<L>,
-    ) -> u32 {
+    ) -> u32
+        requires full { IsTrue (is_full ring.now) }
+        requires space { self.old.limits.positions ≤ scratch.old.room }
+        ensures answer { result ≡ self.new.version }
+        ensures list { scratch.new.matches ≡ matches_in ring.now self.new.published }
+        ensures scratch_room { scratch.new.room ≡ scratch.old.room }
+        ensures unchanged { self.new ≡ self.old }
+    {
         scratch.clear();
         self.list_matches(ring, scratch);
         self.version()
     }
 
-    fn now(&mut self) -> u32 {
+    fn now(&mut self) -> u32
+        ensures answer { result ≡ self.new.version }
+        ensures unchanged { self.new ≡ self.old }
+    {
         self.version()
     }
 }

@@ -24,7 +24,7 @@ returns-then-self-len-2 c =
     let songs : inside.songs ≡ c.args.self.now.limits.songs = ap (λ p. p.limits.songs) c.self.view_is in
     let positions : inside.positions ≡ c.args.self.now.limits.positions = ap (λ p. p.limits.positions) c.self.view_is in
     refused_for_positions c.args.self.now c.args.id c.args.words
-    (sym c.has.ensures ∙ c.if-has.false, c.if-words-lt256.false, omega (arith, count, songs, inside.present.ok)) (omega (arith, words, positions, inside.store.ok))
+    (sym c.has.ensures ∙ c.if-has.false, c.if-words-lt-SHORTEST_SONG.false, omega (arith, count, songs, inside.present.ok)) (omega (arith, words, positions, inside.store.ok))
 
 pub returns-else-self-len-2 : goal.returns-else-self-len-2
 returns-else-self-len-2 c =
@@ -34,4 +34,4 @@ returns-else-self-len-2 c =
     let songs : inside.songs ≡ c.args.self.now.limits.songs = ap (λ p. p.limits.songs) c.self.view_is in
     let positions : inside.positions ≡ c.args.self.now.limits.positions = ap (λ p. p.limits.positions) c.self.view_is in
     not_refused c.args.self.now c.args.id c.args.words
-    (sym c.has.ensures ∙ c.if-has.false, c.if-words-lt256.false, omega (arith, count, songs, inside.present.ok)) (omega (arith, words, positions, inside.store.ok))
+    (sym c.has.ensures ∙ c.if-has.false, c.if-words-lt-SHORTEST_SONG.false, omega (arith, count, songs, inside.present.ok)) (omega (arith, words, positions, inside.store.ok))
