@@ -1,0 +1,29 @@
+-- What a station's text says of its last byte.
+use Rattle.std.specs.Prelude.{ℕ, ◌==◌, Bool, true, false, not, ◌&&◌, if◌then◌else◌, List, [], ◌∷◌, ◌++◌, map, length, slice_index_or}
+use Rattle.std.specs.Option.{option_map_or}
+use Rattle.hk_station_wire.specs.declared.item.Item.{Item}
+use Rattle.hk_station_wire.specs.declared.item.Item.TheVariants.{Nothing, Hello, Byte, Print, Fence, Gap, Fault}
+use Rattle.hk_spec_streams.specs.Pieces.{completed}
+use Rattle.hk_spec_streams.specs.Station.{station_fault, channels_of, fences}
+use Rattle.hk_spec_streams.specs.LastPacket.{last_byte, ends_with_data, ends_gap, all_sent_prints, form_of}
+
+abbrev pub carries_prints : List ℕ → Bool
+carries_prints text = channels_of text == 0
+
+-- one item where the test passes
+abbrev pub one_if : {A : Type 0} → Bool → A → List A
+one_if true x = x ∷ []
+one_if false x = []
+
+-- What the last byte brings, by the whole text; no byte brings two items.
+unfoldable pub items_of : List ℕ → List Item
+items_of text =
+    one_if (length text == 6) (Hello (form_of text))
+    ++ one_if (not (carries_prints text) && ends_with_data text) (Byte (last_byte text))
+    ++ map Print (if carries_prints text then completed all_sent_prints text else [])
+    ++ map (λ fence. Fence fence.asked) (completed fences text)
+    ++ one_if (ends_gap text) Gap
+
+-- the text's fault where it has one, and else what its last byte brings
+unfoldable pub item_at : ℕ → List ℕ → Item
+item_at limit text = option_map_or (λ fault. Fault fault) (station_fault limit text) (slice_index_or (items_of text) 0 Nothing)
