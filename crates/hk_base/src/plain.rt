@@ -28,8 +28,8 @@ pub struct Form {
     pub factor: u8,
 }
 
-/// A start in a song that a block matches, with the bits that differ.
-#[derive(Clone, Copy, Debug, PartialEq, Eq)]
+/// A start in a song that a block matches, with the bits that differ. Matches are ordered by id, then start, then errors.
+#[derive(Clone, Copy, Debug, PartialEq, Eq, PartialOrd, Ord)]
 pub struct Match {
     pub id: u32,
     pub start: u32,
