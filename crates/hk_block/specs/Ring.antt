@@ -1,5 +1,5 @@
 -- The ring of prints, as contracts see it.
-use Rattle.std.specs.Prelude.{◌≡◌, ℕ, ◌-◌, ◌*◌, ◌%◌, ◌==◌, Bool, ◌&&◌, nat_le, if◌then◌else◌, List, [], ◌∷◌, ◌++◌, length, drop, true, IsTrue}
+use Rattle.std.specs.Prelude.{◌≡◌, ℕ, ◌-◌, ◌*◌, ◌%◌, ◌==◌, Bool, ◌&&◌, nat_le, if◌then◌else◌, List, [], ◌∷◌, ◌++◌, length, drop, IsTrue}
 use Rattle.hk_base.specs.declared.plain.Print.{Print}
 use Rattle.hk_spec_sound.specs.Windows.{windows}
 

@@ -9,6 +9,8 @@
 mod looker;
 mod ring;
 mod scratch;
+#[cfg(test)]
+mod tests;
 
 pub use hk_base::{Match, NoMemory, Print, Steps};
 pub use looker::Looker;

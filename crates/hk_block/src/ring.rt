@@ -1,5 +1,5 @@
 // The prints of the present segment, of which the last 256 are kept.
-ghost use Rattle.std.specs.Prelude.{◌≡◌, ◌≤◌, ◌<◌, [], IfOk, IsTrue, slice_get, Some};
+ghost use Rattle.std.specs.Prelude.{◌≡◌, ◌≤◌, ◌<◌, ◌+◌, [], IfOk, IsTrue, slice_get, Some};
 ghost use Rattle.hk_block.specs.Ring.{HasTaken, Takes, AddsBlock, PlacesBlock, MOST_PRINTS, is_full, first_word, completes_block};
 
 use circular_buffer::HeapCircularBuffer;
@@ -50,6 +50,7 @@ impl BlockRing {
     /// the last 256 stands a multiple of the hop from the segment's first.
     pub fn push(&mut self, p: Print) -> bool
         requires fewer { self.old.count < MOST_PRINTS }
+        ensures counts { self.new.count ≡ self.old.count + 1 }
         ensures takes { Takes self.old p self.new }
         ensures completes { result ≡ completes_block self.new }
         ensures adds { AddsBlock self.old p self.new }
@@ -92,6 +93,7 @@ impl BlockRing {
         requires full { IsTrue (is_full self.now) }
         ensures prints { result ≡ self.now.last }
     {
+        let _ = &self.last;
         let mut prints = [Print { word: 0, mask: 0 }; 256];
         for j in 0..BLOCK_SIZE {
             prints[j] = self.print_at(j);
