@@ -13,6 +13,7 @@ ghost use Rattle.hk_block.specs.Ring.{MOST_PRINTS, is_full};
 ghost use Rattle.hk_block.specs.Looker.{KeepsPast, matches_in};
 ghost use Rattle.hk_report.specs.Fronts.{WroteFront};
 ghost use Rattle.hk_station.specs.Taken.{MOST_BYTES, IsInStep};
+ghost use Rattle.hk_station.specs.Content.{content_of};
 
 use hk_base::{Failed, Head, NoMemory, Print, Sink, Steps};
 use hk_block::{BlockRing, Looker, Scratch};
@@ -33,6 +34,24 @@ pub enum Heard {
     Going,
     NotBuilt,
     SinkFault,
+}
+
+// What an item of the wire is in the form that is built.
+#[derive(Clone, Copy)]
+enum Content {
+    Nothing,
+    Print(Print),
+    Other,
+}
+
+fn read_item(item: Item) -> Content
+    ensures { result ≡ content_of item }
+{
+    match item {
+        Item::Nothing | Item::Hello(_) => Content::Nothing,
+        Item::Print(print) if print.mask == 0 => Content::Print(print),
+        _ => Content::Other,
+    }
 }
 
 // What the wire and the ring make of a byte.
@@ -150,16 +169,16 @@ impl Station {
         if !self.allows(byte) {
             return Taken::Refused;
         }
-        match self.wire.push(byte) {
-            Item::Nothing | Item::Hello(_) => Taken::Nothing,
-            Item::Print(print) if print.mask == 0 => {
+        match read_item(self.wire.push(byte)) {
+            Content::Nothing => Taken::Nothing,
+            Content::Print(print) => {
                 if self.ring.push(print) {
                     Taken::Block
                 } else {
                     Taken::Nothing
                 }
             }
-            _ => Taken::Refused,
+            Content::Other => Taken::Refused,
         }
     }
 
