@@ -169,3 +169,15 @@ last_bytes-next size end b before after (Goes front last goes old grown is) =
     ap last_bytes grown ∙ last_bytes-append front (record { place = last.place; bytes = last.bytes ++ b ∷ [] })
     ∙ sym (ap (λ bytes. bytes ++ b ∷ []) (ap last_bytes old ∙ last_bytes-append front last))
     ∙ sym (ap (λ c. cond c (b ∷ []) (last_bytes before ++ b ∷ [])) goes)
+
+-- the last piece isn't longer than what came
+pub last_bytes-le : (size : List ℕ → ℕ) (end b : ℕ) (before after : List Piece) → Next size end b before after → length (last_bytes after) ≤ end + 1
+last_bytes-le size end b before after (Begins begins grown) =
+    let bytes : last_bytes after ≡ b ∷ [] = ap last_bytes grown ∙ last_bytes-append before (record { place = end; bytes = b ∷ [] }) in
+    let long : length (last_bytes after) ≡ 1 = ap length bytes in
+    omega (arith, long)
+last_bytes-le size end b before after (Goes front last goes old grown is) =
+    let bytes : last_bytes after ≡ last.bytes ++ b ∷ [] = ap last_bytes grown ∙ last_bytes-append front (record { place = last.place; bytes = last.bytes ++ b ∷ [] }) in
+    let long : length (last_bytes after) ≡ length last.bytes + 1 = ap length bytes ∙ length-append last.bytes (b ∷ []) in
+    let ends : last.place + length last.bytes ≡ end = is.ends in
+    omega (arith, long, ends)

@@ -4,23 +4,24 @@ use Rattle.std.proofs.lemmas.List.{append-nil, drop_all, take-append-le, map-app
 use Rattle.std.proofs.lemmas.Grind.{flat_map-append}
 use Rattle.std.proofs.lemmas.List.Elements.{filter_map-append}
 use Rattle.std.proofs.lemmas.List.Splits.{slice_split-cons_yes, slice_split-cons_no}
-use Rattle.std.proofs.lemmas.Bool.{eqb-true}
+use Rattle.std.proofs.lemmas.Bool.{eqb-true, le-leb}
 use Rattle.std.proofs.lemmas.Bool.Decides.{leb_tells, eqb_tells}
 use Rattle.std.proofs.Math.Seq.{get_or-append_seam, take-append_seam, drop-append_seam, drop-nil}
 use Rattle.std.specs.Prelude.{◌&&◌, ◌||◌, ◌==◌, ◌⊎◌, nat_lt, nat_le, if◌then◌else◌}
 use Rattle.std.specs.Int.{w16, w32, from_be_bytes}
 use Rattle.std.specs.Option.{option_map_or}
-use Rattle.std.specs.List.{slice_split, onto_first, last_or, cons_option}
+use Rattle.std.specs.List.{slice_split, onto_first, last_or, cons_option, list_all}
 use Rattle.hk_spec_sound.specs.Windows.{windows}
 use Rattle.hk_base.specs.declared.plain.Print.{Print}
 use Rattle.hk_spec_sound.specs.Groups.{rest_of}
 use Rattle.hk_spec_sound.proofs.GrowingGroups.{groups-append_whole, groups-append_part, rest_is_short}
-use Rattle.hk_spec_streams.specs.Pieces.{Piece, pieces, pieces_within, last_bytes, completed}
-use Rattle.hk_spec_streams.specs.Grammar.{packets, packet_size, kind_of, payload_of}
+use Rattle.hk_spec_streams.specs.Pieces.{Piece, pieces, pieces_within, last_bytes, completed, is_whole}
+use Rattle.hk_spec_streams.specs.Grammar.{packets, packet_size, kind_of, payload_of, ends_at_start}
 use Rattle.hk_spec_streams.specs.Station.{station_grammar, segments, fences, Fence, fence_of, data_of, sent_print, sent_prints, DATA, FENCE, GAP}
 use Rattle.hk_spec_streams.specs.LastPacket.{last_packet, last_byte, begins_gap, ends_with_data, last_segment, all_sent_prints}
 use Rattle.hk_spec_streams.proofs.PacketSize.{packet_size_16}
-use Rattle.hk_spec_streams.proofs.GrowingPackets.{Last, Next, Begins, Goes, next_behind, last_bytes-next, last_bytes-append, last_or-append, over, known}
+use Rattle.hk_spec_streams.proofs.NextFault.{by_bytes}
+use Rattle.hk_spec_streams.proofs.GrowingPackets.{last_bytes-le, all_whole, Last, Next, Begins, Goes, next_behind, last_bytes-next, last_bytes-append, last_or-append, over, known}
 
 -- no packet before the hello is there
 pub packets_short : (text : List ℕ) → length text ≤ 6 → packets station_grammar text ≡ []
@@ -36,6 +37,21 @@ next_packet text b h = next_behind (packet_size w16) packet_size_16 6 b text h
 pub last_packet-next : (text : List ℕ) (b : ℕ) → 6 ≤ length text
     → last_packet (text ++ b ∷ []) ≡ (if over (packet_size w16) (last_packet text) then b ∷ [] else last_packet text ++ b ∷ [])
 last_packet-next text b h = last_bytes-next (packet_size w16) (length text) b _ _ (next_packet text b h)
+
+shorter : (text : List ℕ) → packets station_grammar text ≡ [] → length (last_packet text) ≤ length text
+shorter text none = let zero_long : length (last_packet text) ≡ 0 = ap (λ ps. length (last_bytes ps)) none in omega (arith, zero_long)
+
+-- the last packet isn't longer than the text
+pub last_packet-le : (text : List ℕ) → length (last_packet text) ≤ length text
+last_packet-le = by_bytes (λ text. length (last_packet text) ≤ length text) (shorter [] (packets_short [] (omega arith))) (λ text b before. elim (leb_tells 6 (length text)) [
+  | inr early ↦
+      let long : length (text ++ b ∷ []) ≡ length text + 1 = length-append text (b ∷ []) in
+      shorter (text ++ b ∷ []) (packets_short (text ++ b ∷ []) (omega (arith, long, early.1)))
+  | inl late ↦
+      let long : length (text ++ b ∷ []) ≡ length text + 1 = length-append text (b ∷ []) in
+      let most : length (last_packet (text ++ b ∷ [])) ≤ length text + 1 = last_bytes-le (packet_size w16) (length text) b _ _ (next_packet text b late.1) in
+      omega (arith, most, long)
+])
 
 pub last_byte-append : (text : List ℕ) (b : ℕ) → last_byte (text ++ b ∷ []) ≡ b
 last_byte-append text b =
@@ -428,3 +444,10 @@ fences_completed text b = elim (leb_tells 6 (length text)) [
           ∙ sym (ap (fence_in (length text)) (ap last_bytes grown ∙ last_bytes-append front (piece_at last.place (last.bytes ++ b ∷ []))))
     ]
 ]
+
+-- behind the hello a packet may begin where there is none, or the last one is whole
+pub starts : (text : List ℕ) → 6 ≤ length text → ends_at_start station_grammar text ≡ over (packet_size w16) (last_packet text)
+unfolding packets
+starts text late =
+    ap (λ c. c && list_all (is_whole (packet_size w16)) (packets station_grammar text)) (le-leb 6 (length text) late)
+    ∙ all_whole (packet_size w16) packet_size_16 (length (drop 6 text)) 6 (drop 6 text) (omega arith)

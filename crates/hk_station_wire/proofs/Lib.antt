@@ -1,0 +1,5 @@
+pub mod MeetsFault
+pub mod Parts
+pub mod Brought
+pub mod Behind
+pub mod Push

@@ -18,9 +18,6 @@ width_of Four = w32
 abbrev pub length_size : LastPacket → LengthSize
 length_size packet = packet.size
 
-abbrev pub count_of : LastPacket → ℕ
-count_of packet = packet.count
-
 -- the packet's length, where bytes that aren't there count as 0
 abbrev pub length_in : LengthSize → List ℕ → ℕ
 length_in size bytes = from_be_bytes (width_of size) (take (byte_len (width_of size)) (drop 1 bytes))

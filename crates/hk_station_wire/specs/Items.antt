@@ -24,6 +24,10 @@ items_of text =
     ++ map (λ fence. Fence fence.asked) (completed fences text)
     ++ one_if (ends_gap text) Gap
 
+-- the item among them, and Nothing where there is none
+abbrev pub item_of : List ℕ → Item
+item_of text = slice_index_or (items_of text) 0 Nothing
+
 -- the text's fault where it has one, and else what its last byte brings
 unfoldable pub item_at : ℕ → List ℕ → Item
-item_at limit text = option_map_or (λ fault. Fault fault) (station_fault limit text) (slice_index_or (items_of text) 0 Nothing)
+item_at limit text = option_map_or (λ fault. Fault fault) (station_fault limit text) (item_of text)

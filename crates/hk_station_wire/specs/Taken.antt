@@ -1,12 +1,37 @@
 -- A wire and the text that it has taken.
-use Rattle.std.specs.Prelude.{◌≡◌, ℕ, ◌-◌, ◌*◌, ◌/◌, ◌<◌, List, length, drop, Option, None}
+use Rattle.std.specs.Prelude.{◌≡◌, ℕ, ◌<◌, List, [], ◌∷◌, ◌++◌, length, if◌then◌else◌, Option, Some, None, Result, Ok, Err}
 use Rattle.hk_base.specs.declared.plain.WireFault.{WireFault}
+use Rattle.hk_station_wire.specs.declared.item.Item.{Item}
+use Rattle.hk_station_wire.specs.declared.reader.Reader.{Reader}
 use Rattle.hk_station_wire.specs.declared.wire.Wire.{Wire}
-use Rattle.hk_station_wire.specs.declared.packet.LengthSize.TheVariants.{Two}
-use Rattle.hk_station_wire.specs.Held.{gathered, length_size, IsLast}
+use Rattle.hk_station_wire.specs.Held.{gathered, IsLast}
+use Rattle.hk_station_wire.specs.Items.{item_of, carries_prints}
 use Rattle.hk_spec_sound.specs.Groups.{rest_of}
-use Rattle.hk_spec_streams.specs.Station.{channels_of, factor_of, station_fault, station_seen}
+use Rattle.hk_spec_streams.specs.Station.{channels_of, factor_of, station_met, station_fault, station_seen}
 use Rattle.hk_spec_streams.specs.LastPacket.{last_packet, last_segment}
+
+-- what the last segment has beyond its whole prints, where the stream carries prints
+abbrev pub unfinished_print : List ℕ → List ℕ
+unfinished_print text = if carries_prints text then rest_of 8 (last_segment text) else []
+
+-- The reader stands at the end of a text without a fault: it has the form, the last packet and the unfinished print.
+pub record StandsAfter (reader : Reader) (text : List ℕ) : Type 0 where
+  pub channels : 4 < length text → reader.form.channels ≡ channels_of text
+  pub factor : 5 < length text → reader.form.factor ≡ factor_of text
+  pub packet : IsLast reader.packet (last_packet text)
+  pub group : gathered reader.group ≡ unfinished_print text
+
+-- The same behind the hello, where one byte more came to the last packet and to nothing else yet.
+pub record HasByte (reader : Reader) (text : List ℕ) (byte : ℕ) : Type 0 where
+  pub channels : reader.form.channels ≡ channels_of text
+  pub factor : reader.form.factor ≡ factor_of text
+  pub packet : IsLast reader.packet (last_packet (text ++ byte ∷ []))
+  pub group : gathered reader.group ≡ unfinished_print text
+
+-- the last byte of a text without a fault before it: what it brings, or the fault that it meets
+abbrev pub Brings : Result Item WireFault → Reader → ℕ → List ℕ → Type 0
+Brings (Ok item) reader limit text = (station_met limit text ≡ None) × (item ≡ item_of text) × StandsAfter reader text
+Brings (Err fault) reader limit text = station_met limit text ≡ Some fault
 
 -- at most so many bytes are taken
 abbrev pub limit_of : Wire → ℕ
@@ -16,16 +41,8 @@ limit_of wire = wire.limit
 abbrev pub fault_met : Wire → Option WireFault
 fault_met wire = wire.fault
 
--- The wire stands at the end of a text without a fault: it has the form, the last packet, and what the last segment has
--- beyond its whole prints.
-pub record StandsAfter (wire : Wire) (text : List ℕ) : Type 0 where
-  pub channels : 4 < length text → wire.form.channels ≡ channels_of text
-  pub factor : 5 < length text → wire.form.factor ≡ factor_of text
-  pub packet : IsLast wire.packet (last_packet text)
-  pub group : channels_of text ≡ 0 → gathered wire.group ≡ rest_of 8 (last_segment text)
-
 -- The wire has taken this text: it has met the text's fault, and where there is none it stands at the text's end.
 pub record HasTaken (wire : Wire) (text : List ℕ) : Type 0 where
   pub fault : wire.fault ≡ station_fault wire.limit text
   pub taken : wire.taken ≡ length (station_seen wire.limit text)
-  pub stands : wire.fault ≡ None → StandsAfter wire text
+  pub stands : wire.fault ≡ None → StandsAfter wire.reader text

@@ -9,6 +9,7 @@
 mod gathered;
 mod item;
 mod packet;
+mod reader;
 mod wire;
 
 pub use gathered::Gathered;

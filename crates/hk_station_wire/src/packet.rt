@@ -21,7 +21,7 @@ pub struct LastPacket {
 }
 
 impl LastPacket {
-    ghost use Rattle.hk_station_wire.specs.Held.{IsLast, length_size, count_of, is_over, length_in};
+    ghost use Rattle.hk_station_wire.specs.Held.{IsLast, length_size, is_over, length_in};
 
     /// No packet yet.
     pub fn new(size: LengthSize) -> LastPacket
@@ -37,18 +37,16 @@ impl LastPacket {
 
     /// Takes the stream's next byte: it begins a packet where the last one is over, and else goes to the last one.
     pub fn push(&mut self, byte: u8)
-        requires { count_of self.old < 2 ^ 64 - 1 }
-        ensures next { (bytes : List ℕ) → IsLast self.old bytes
+        ensures next { (bytes : List ℕ) → length bytes < 2 ^ 64 - 1 → IsLast self.old bytes
             → IsLast self.new (if is_over (length_size self.old) bytes then byte ∷ [] else bytes ++ byte ∷ []) }
         ensures size { length_size self.new ≡ length_size self.old }
-        ensures most { count_of self.new ≤ count_of self.old + 1 }
     {
         if self.is_over() {
             self.first = Gathered::new();
             self.count = 0;
         }
         self.first.push(byte);
-        self.count += 1;
+        self.count = self.count.saturating_add(1);
     }
 
     /// Whether the next byte begins a packet.
@@ -64,8 +62,7 @@ impl LastPacket {
 
     /// How many bytes of the packet came.
     pub fn count(&self) -> u64
-        ensures value { result ≡ count_of self.now }
-        ensures bytes { (bytes : List ℕ) → IsLast self.now bytes → result ≡ length bytes }
+        ensures { (bytes : List ℕ) → IsLast self.now bytes → result ≡ length bytes }
     {
         self.count
     }
@@ -90,7 +87,7 @@ impl LastPacket {
     /// Four of the packet's first twelve bytes, from a place on, as a number.
     pub fn number(&self, place: usize) -> u32
         requires { place ≤ 8 }
-        ensures { (bytes : List ℕ) → IsLast self.now bytes → result ≡ from_be_bytes w32 (take 4 (drop place bytes)) }
+        ensures { (bytes : List ℕ) → IsLast self.now bytes → result ≡ from_be_bytes w32 (drop place bytes) }
     {
         self.first.number(place)
     }

@@ -1,0 +1,308 @@
+-- What a byte behind the hello brings, for each part of a packet.
+use Rattle.std.proofs.Common.{◌≡◌, ℕ, zero, suc, ◌+◌, ◌-◌, ◌<◌, ◌≤◌, List, [], ◌∷◌, ◌++◌, length, take, drop, map, flat_map, subst, refl, sym, ◌∙◌, ap, arith, length-append, Bool, true, false, inl, inr, Option, None, Some, cond, slice_index}
+use Rattle.std.proofs.lemmas.List.{append-nil, take_all, get_or_append_left}
+use Rattle.std.proofs.lemmas.Bool.{lt-ltb, le-ltb, eq-eqb}
+use Rattle.std.proofs.lemmas.Bool.Decides.{eqb_tells}
+use Rattle.std.proofs.Math.Bool.{and-false, and-true}
+use Rattle.std.specs.Prelude.{◌&&◌, ◌||◌, ◌==◌, nat_lt, not, slice_index_or, count_ones, Ok, Err, Result, if◌then◌else◌, ◌^◌}
+use Rattle.std.specs.Option.{option_or}
+use Rattle.std.specs.Int.{w32, from_be_bytes}
+use Rattle.std.specs.List.{list_any}
+use Rattle.hk_base.specs.declared.plain.Print.{Print}
+use Rattle.hk_base.specs.declared.plain.WireFault.{WireFault}
+use Rattle.hk_base.specs.declared.plain.WireFault.TheVariants.{BadMask}
+use Rattle.hk_spec_sound.specs.Groups.{rest_of}
+use Rattle.hk_spec_sound.proofs.GrowingGroups.{rest_is_short}
+use Rattle.hk_spec_streams.specs.Pieces.{completed}
+use Rattle.hk_spec_streams.proofs.GrowingPackets.{known}
+use Rattle.hk_spec_streams.specs.Station.{DATA, FENCE, GAP, station_met, fences, Fence, sent_print, has_bad_mask, channels_of, factor_of}
+use Rattle.hk_spec_streams.specs.LastPacket.{last_packet, last_byte, last_segment, all_sent_prints, begins_gap, ends_gap, ends_with_data, form_of}
+use Rattle.hk_spec_streams.proofs.GrowingSegments.{last_packet-next, last_packet-le, next_prints, NextPrints, NoPrint, NoData, PartOfPrint, WholePrint, completed-more, fences_completed, fence_in, last_byte-append}
+use Rattle.hk_station_wire.specs.declared.item.Item.{Item}
+use Rattle.hk_station_wire.specs.declared.item.Item.TheVariants as item
+use Rattle.hk_station_wire.specs.declared.packet.LengthSize.{LengthSize}
+use Rattle.hk_station_wire.specs.declared.packet.LengthSize.TheVariants.{Two}
+use Rattle.hk_station_wire.specs.declared.packet.LastPacket.{LastPacket}
+use Rattle.hk_station_wire.specs.declared.reader.Part.{Part}
+use Rattle.hk_station_wire.specs.declared.reader.Part.TheVariants.{Data, FenceEnd, GapBegin, GapEnd, Other}
+use Rattle.hk_station_wire.specs.declared.reader.Reader.{Reader}
+use Rattle.hk_station_wire.specs.Held.{IsLast, gathered, length_in, length_size, is_over}
+use Rattle.hk_station_wire.specs.Items.{item_of, one_if, carries_prints}
+use Rattle.hk_station_wire.specs.Steps.{head_fault, part_of, left_of_print, print_outcome}
+use Rattle.hk_station_wire.specs.Taken.{StandsAfter, HasByte, Brings, unfinished_print}
+use Rattle.hk_station_wire.proofs.MeetsFault.{met_packet, bad_print, sends_nothing, no_print, no_bad_print, true_isnt_false}
+use Rattle.hk_station_wire.proofs.Parts.{Tests, Says, says}
+use Rattle.hk_station_wire.proofs.Brought.{first_item, item_by, either_way, same_channels, same_factor}
+
+none_passes : (prints : List Print) → list_any (λ print. false && nat_lt 10 (count_ones print.mask)) prints ≡ false
+none_passes [] = refl
+none_passes (print ∷ prints) = none_passes prints
+
+-- what is known once the byte is in the last packet: the packet's kind, length and number of bytes
+pub record Looked (limit : ℕ) (text : List ℕ) (b : ℕ) (reader : Reader) (place count kind packet_length : ℕ) : Type 0 where
+  pub at : place ≡ length text
+  pub late : 6 ≤ place
+  pub room : place < limit
+  pub has : HasByte reader text b
+  pub count_is : count ≡ length (last_packet (text ++ b ∷ []))
+  pub kind_is : kind ≡ slice_index (last_packet (text ++ b ∷ [])) 0
+  pub length_is : packet_length ≡ length_in Two (last_packet (text ++ b ∷ []))
+
+module _ (limit : ℕ) (text : List ℕ) (b : ℕ) (reader : Reader) (place count kind packet_length : ℕ) (look : Looked limit text b reader place count kind packet_length) where
+  -- what the byte meets
+  met : station_met limit (text ++ b ∷ []) ≡ option_or (head_fault place count kind packet_length) (cond (bad_print (text ++ b ∷ [])) (Some (BadMask place)) None)
+  met =
+      let at : place ≡ length text = look.at in
+      let late : 6 ≤ place = look.late in
+      let room : place < limit = look.room in
+      let bs : List ℕ = last_packet (text ++ b ∷ []) in
+      met_packet limit text b (omega arith) (omega arith)
+      ∙ sym (ap (λ p. option_or (head_fault p count kind packet_length) (cond (bad_print (text ++ b ∷ [])) (Some (BadMask p)) None)) look.at
+      ∙ ap (λ n. option_or (head_fault (length text) n kind packet_length) (cond (bad_print (text ++ b ∷ [])) (Some (BadMask (length text))) None)) look.count_is
+      ∙ ap (λ k. option_or (head_fault (length text) (length bs) k packet_length) (cond (bad_print (text ++ b ∷ [])) (Some (BadMask (length text))) None)) look.kind_is
+      ∙ ap (λ n. option_or (head_fault (length text) (length bs) (slice_index bs 0) n) (cond (bad_print (text ++ b ∷ [])) (Some (BadMask (length text))) None)) look.length_is)
+
+  pub head_meets : (fault : WireFault) → head_fault place count kind packet_length ≡ Some fault → station_met limit (text ++ b ∷ []) ≡ Some fault
+  head_meets fault is = met ∙ ap (λ o. option_or o (cond (bad_print (text ++ b ∷ [])) (Some (BadMask place)) None)) is
+
+  met_by : head_fault place count kind packet_length ≡ None → station_met limit (text ++ b ∷ []) ≡ cond (bad_print (text ++ b ∷ [])) (Some (BadMask place)) None
+  met_by is = met ∙ ap (λ o. option_or o (cond (bad_print (text ++ b ∷ [])) (Some (BadMask place)) None)) is
+
+  tests : (part : Part) → part_of kind count ≡ part → Says part (slice_index (last_packet (text ++ b ∷ [])) 0) (length (last_packet (text ++ b ∷ [])))
+  tests part is =
+      let bs : List ℕ = last_packet (text ++ b ∷ []) in
+      let P : Part → Type 0 = λ p. Says p kind count in
+      let Q : ℕ → Type 0 = λ k. Says part k count in
+      let R : ℕ → Type 0 = λ n. Says part (slice_index bs 0) n in
+      subst R look.count_is (subst Q look.kind_is (subst P is (says kind count)))
+
+  -- the form and the packet as they are, and the unfinished print of the text with the byte
+  stands : (new : Reader) → new.form ≡ reader.form → new.packet ≡ reader.packet → gathered new.group ≡ unfinished_print (text ++ b ∷ []) → StandsAfter new (text ++ b ∷ [])
+  stands new same_form same_packet group =
+      let at : place ≡ length text = look.at in
+      let late : 6 ≤ place = look.late in
+      let P : LastPacket → Type 0 = λ packet. IsLast packet (last_packet (text ++ b ∷ [])) in
+      record {
+        channels = λ h. ap (λ form. form.channels) same_form ∙ look.has.channels ∙ sym (same_channels text b (omega arith));
+        factor = λ h. ap (λ form. form.factor) same_form ∙ look.has.factor ∙ sym (same_factor text b (omega arith));
+        packet = subst P (sym same_packet) look.has.packet;
+        group = group;
+      }
+
+  carries_as_before : carries_prints (text ++ b ∷ []) ≡ carries_prints text
+  carries_as_before =
+      let at : place ≡ length text = look.at in
+      let late : 6 ≤ place = look.late in
+      ap (λ n. n == 0) (same_channels text b (omega arith))
+
+  not_hello : (length (text ++ b ∷ []) == 6) ≡ false
+  not_hello =
+      let at : place ≡ length text = look.at in
+      let late : 6 ≤ place = look.late in
+      let long : length (text ++ b ∷ []) ≡ length text + 1 = length-append text (b ∷ []) in
+      elim (eqb_tells (length (text ++ b ∷ [])) 6) [ inl six ↦ absurd (omega (arith, six.1, long)) | inr isnt ↦ isnt.0 ]
+
+  -- a byte that is no data: the unfinished print ends at a gap, and else stays
+  quiet_unfinished : ends_with_data (text ++ b ∷ []) ≡ false → unfinished_print (text ++ b ∷ []) ≡ cond (begins_gap (text ++ b ∷ [])) [] (unfinished_print text)
+  quiet_unfinished none =
+      let t : List ℕ = text ++ b ∷ [] in
+      elim (next_prints text b) [
+        | NoPrint gap same last ↦
+            ap (λ segment. cond (carries_prints t) (rest_of 8 segment) []) last ∙ either_way (carries_prints t) []
+            ∙ sym (ap (λ c. cond c [] (unfinished_print text)) gap)
+        | NoData no_gap no_data same last ↦
+            ap (λ segment. cond (carries_prints t) (rest_of 8 segment) []) last
+            ∙ ap (λ c. cond c (rest_of 8 (last_segment text)) []) carries_as_before
+            ∙ sym (ap (λ c. cond c [] (unfinished_print text)) no_gap)
+        | PartOfPrint no_gap data_byte short same rest ↦ absurd (true_isnt_false (sym data_byte ∙ none))
+        | WholePrint no_gap data_byte full grown rest ↦ absurd (true_isnt_false (sym data_byte ∙ none))
+      ]
+
+  -- what a byte brings that is no data
+  quiet_item : (fence_end gap_end : Bool) → ends_with_data (text ++ b ∷ []) ≡ false
+      → ((slice_index (last_packet (text ++ b ∷ [])) 0 == FENCE) && (length (last_packet (text ++ b ∷ [])) == 7)) ≡ fence_end → ends_gap (text ++ b ∷ []) ≡ gap_end
+      → item_of (text ++ b ∷ []) ≡ first_item false false []
+      (cond fence_end (record { asked = from_be_bytes w32 (drop 3 (last_packet (text ++ b ∷ []))); place = length text } ∷ []) []) gap_end
+      (form_of (text ++ b ∷ [])) (last_byte (text ++ b ∷ []))
+  quiet_item fence_end gap_end none fence gap =
+      let t : List ℕ = text ++ b ∷ [] in
+      item_by t false false [] (cond fence_end (record { asked = from_be_bytes w32 (drop 3 (last_packet t)); place = length text } ∷ []) []) gap_end not_hello
+      (ap (λ c. not (carries_prints t) && c) none ∙ and-false (not (carries_prints t)))
+      (ap (λ ps. cond (carries_prints t) ps []) (no_print text b (sends_nothing text b none)) ∙ either_way (carries_prints t) [])
+      (fences_completed text b ∙ ap (λ c. cond c (record { asked = from_be_bytes w32 (drop 3 (last_packet t)); place = length text } ∷ []) []) fence)
+      gap
+
+  quiet_met : head_fault place count kind packet_length ≡ None → ends_with_data (text ++ b ∷ []) ≡ false → station_met limit (text ++ b ∷ []) ≡ None
+  quiet_met fine none = met_by fine ∙ ap (λ c. cond c (Some (BadMask place)) None) (no_bad_print text b (sends_nothing text b none))
+
+  pub brings_other : (new : Reader) → head_fault place count kind packet_length ≡ None → part_of kind count ≡ Other
+      → new.form ≡ reader.form → new.packet ≡ reader.packet → new.group ≡ reader.group → Brings (Ok item.Nothing) new limit (text ++ b ∷ [])
+  brings_other new fine is same_form same_packet same_group =
+      let by = tests Other is in (
+        quiet_met fine by.data_test,
+        sym (quiet_item false false by.data_test by.fence_test by.end_test),
+        stands new same_form same_packet
+            (ap gathered same_group ∙ look.has.group ∙ sym (quiet_unfinished by.data_test ∙ ap (λ c. cond c [] (unfinished_print text)) by.begin_test)),
+      )
+
+  pub brings_gap_end : (new : Reader) → head_fault place count kind packet_length ≡ None → part_of kind count ≡ GapEnd
+      → new.form ≡ reader.form → new.packet ≡ reader.packet → new.group ≡ reader.group → Brings (Ok item.Gap) new limit (text ++ b ∷ [])
+  brings_gap_end new fine is same_form same_packet same_group =
+      let by = tests GapEnd is in (
+        quiet_met fine by.data_test,
+        sym (quiet_item false true by.data_test by.fence_test by.end_test),
+        stands new same_form same_packet
+            (ap gathered same_group ∙ look.has.group ∙ sym (quiet_unfinished by.data_test ∙ ap (λ c. cond c [] (unfinished_print text)) by.begin_test)),
+      )
+
+  pub brings_gap_begin : (new : Reader) → head_fault place count kind packet_length ≡ None → part_of kind count ≡ GapBegin
+      → new.form ≡ reader.form → new.packet ≡ reader.packet → gathered new.group ≡ [] → Brings (Ok item.Nothing) new limit (text ++ b ∷ [])
+  brings_gap_begin new fine is same_form same_packet empty =
+      let by = tests GapBegin is in (
+        quiet_met fine by.data_test,
+        sym (quiet_item false false by.data_test by.fence_test by.end_test),
+        stands new same_form same_packet (empty ∙ sym (quiet_unfinished by.data_test ∙ ap (λ c. cond c [] (unfinished_print text)) by.begin_test)),
+      )
+
+  pub brings_fence : (new : Reader) (asked : ℕ) → head_fault place count kind packet_length ≡ None → part_of kind count ≡ FenceEnd
+      → asked ≡ from_be_bytes w32 (drop 3 (last_packet (text ++ b ∷ [])))
+      → new.form ≡ reader.form → new.packet ≡ reader.packet → new.group ≡ reader.group → Brings (Ok (item.Fence asked)) new limit (text ++ b ∷ [])
+  brings_fence new asked fine is asks same_form same_packet same_group =
+      let by = tests FenceEnd is in (
+        quiet_met fine by.data_test,
+        ap item.Fence asks ∙ sym (quiet_item true false by.data_test by.fence_test by.end_test),
+        stands new same_form same_packet
+            (ap gathered same_group ∙ look.has.group ∙ sym (quiet_unfinished by.data_test ∙ ap (λ c. cond c [] (unfinished_print text)) by.begin_test)),
+      )
+
+  data_row : part_of kind count ≡ Data → (not (carries_prints (text ++ b ∷ [])) && ends_with_data (text ++ b ∷ [])) ≡ not (carries_prints text)
+  data_row is =
+      let by = tests Data is in
+      ap (λ c. not (carries_prints (text ++ b ∷ [])) && c) by.data_test ∙ and-true (not (carries_prints (text ++ b ∷ []))) ∙ ap not carries_as_before
+
+  no_fence_there : part_of kind count ≡ Data → completed fences (text ++ b ∷ []) ≡ []
+  no_fence_there is =
+      let by = tests Data is in
+      fences_completed text b ∙ ap (λ c. cond c (record { asked = from_be_bytes w32 (drop 3 (last_packet (text ++ b ∷ []))); place = length text } ∷ []) []) by.fence_test
+
+  -- a byte of sound
+  pub brings_sound : (new : Reader) → head_fault place count kind packet_length ≡ None → part_of kind count ≡ Data → carries_prints text ≡ false
+      → new.form ≡ reader.form → new.packet ≡ reader.packet → new.group ≡ reader.group → Brings (Ok (item.Byte b)) new limit (text ++ b ∷ [])
+  brings_sound new fine is sound same_form same_packet same_group =
+      let t : List ℕ = text ++ b ∷ [] in
+      let by = tests Data is in
+      let carries : carries_prints (text ++ b ∷ []) ≡ false = carries_as_before ∙ sound in
+      let good : bad_print (text ++ b ∷ []) ≡ false =
+      ap (λ c. list_any (λ print. c && nat_lt 10 (count_ones print.mask)) (completed all_sent_prints t)) carries ∙ none_passes (completed all_sent_prints t) in (
+        met_by fine ∙ ap (λ c. cond c (Some (BadMask place)) None) good,
+        sym (item_by t false true [] [] false not_hello (data_row is ∙ ap not sound)
+            (ap (λ c. cond c (completed all_sent_prints t) []) carries) (no_fence_there is) by.end_test ∙ ap item.Byte (last_byte-append text b)),
+        stands new same_form same_packet
+            (ap gathered same_group ∙ look.has.group ∙ ap (λ c. cond c (rest_of 8 (last_segment text)) []) sound
+            ∙ sym (ap (λ c. cond c (rest_of 8 (last_segment t)) []) carries)),
+      )
+
+  -- a byte of a print, where these are the bytes of the print so far
+  module _ (fine : head_fault place count kind packet_length ≡ None) (is : part_of kind count ≡ Data) (carries : carries_prints text ≡ true)
+      (new : Reader) (same_form : new.form ≡ reader.form) (same_packet : new.packet ≡ reader.packet)
+      (left : gathered new.group ≡ left_of_print (take 12 (gathered reader.group ++ b ∷ []))) where
+    held : take 12 (gathered reader.group ++ b ∷ []) ≡ rest_of 8 (last_segment text) ++ b ∷ []
+    held =
+        let rest : List ℕ = rest_of 8 (last_segment text) in
+        let group : gathered reader.group ≡ rest_of 8 (last_segment text) = look.has.group ∙ ap (λ c. cond c rest []) carries in
+        let short : length (rest_of 8 (last_segment text)) < 8 = rest_is_short 8 (last_segment text) (omega arith) in
+        let long : length (rest_of 8 (last_segment text) ++ b ∷ []) ≡ length (rest_of 8 (last_segment text)) + 1 = length-append rest (b ∷ []) in
+        ap (λ bytes. take 12 (bytes ++ b ∷ [])) group ∙ take_all 12 (rest ++ b ∷ []) (omega (arith, short, long))
+
+    unfinished : unfinished_print (text ++ b ∷ []) ≡ rest_of 8 (last_segment (text ++ b ∷ []))
+    unfinished = ap (λ c. cond c (rest_of 8 (last_segment (text ++ b ∷ []))) []) (carries_as_before ∙ carries)
+
+    print_item : (prints : List Print) → completed all_sent_prints (text ++ b ∷ []) ≡ prints
+        → item_of (text ++ b ∷ []) ≡ first_item false false prints [] false (form_of (text ++ b ∷ [])) (last_byte (text ++ b ∷ []))
+    print_item prints are =
+        let t : List ℕ = text ++ b ∷ [] in
+        let by = tests Data is in
+        item_by t false false prints [] false not_hello (data_row is ∙ ap not carries)
+        (ap (λ c. cond c (completed all_sent_prints t) []) (carries_as_before ∙ carries) ∙ are) (no_fence_there is) by.end_test
+
+    part_brings : length (rest_of 8 (last_segment text)) < 7 → all_sent_prints (text ++ b ∷ []) ≡ all_sent_prints text
+        → rest_of 8 (last_segment (text ++ b ∷ [])) ≡ rest_of 8 (last_segment text) ++ b ∷ []
+        → Brings (print_outcome place (take 12 (gathered reader.group ++ b ∷ []))) new limit (text ++ b ∷ [])
+    part_brings short same rest_after =
+        let t : List ℕ = text ++ b ∷ [] in
+        let bytes : List ℕ = rest_of 8 (last_segment text) ++ b ∷ [] in
+        let long : length (rest_of 8 (last_segment text) ++ b ∷ []) ≡ length (rest_of 8 (last_segment text)) + 1 = length-append (rest_of 8 (last_segment text)) (b ∷ []) in
+        let few : nat_lt (length (rest_of 8 (last_segment text) ++ b ∷ [])) 8 ≡ true = lt-ltb _ 8 (omega (arith, short, long)) in
+        let print : Print = sent_print bytes in
+        let outcome : print_outcome place (take 12 (gathered reader.group ++ b ∷ [])) ≡ Ok item.Nothing =
+        ap (print_outcome place) held ∙ ap (λ c. cond c (Ok item.Nothing) (cond (nat_lt 10 (count_ones print.mask)) (Err (BadMask place)) (Ok (item.Print print)))) few in
+        let P : Result Item WireFault → Type 0 = λ r. Brings r new limit t in
+        subst P (sym outcome) (
+          met_by fine ∙ ap (λ c. cond c (Some (BadMask place)) None) (no_bad_print text b same),
+          sym (print_item [] (no_print text b same)),
+          stands new same_form same_packet
+              (left ∙ ap left_of_print held ∙ ap (λ c. cond c bytes []) few ∙ sym (unfinished ∙ rest_after)),
+        )
+
+    whole_brings : length (rest_of 8 (last_segment text)) ≡ 7
+        → all_sent_prints (text ++ b ∷ []) ≡ all_sent_prints text ++ sent_print (rest_of 8 (last_segment text) ++ b ∷ []) ∷ []
+        → rest_of 8 (last_segment (text ++ b ∷ [])) ≡ []
+        → Brings (print_outcome place (take 12 (gathered reader.group ++ b ∷ []))) new limit (text ++ b ∷ [])
+    whole_brings full grown rest_after =
+        let t : List ℕ = text ++ b ∷ [] in
+        let bytes : List ℕ = rest_of 8 (last_segment text) ++ b ∷ [] in
+        let print : Print = sent_print bytes in
+        let long : length (rest_of 8 (last_segment text) ++ b ∷ []) ≡ length (rest_of 8 (last_segment text)) + 1 = length-append (rest_of 8 (last_segment text)) (b ∷ []) in
+        let enough : nat_lt (length (rest_of 8 (last_segment text) ++ b ∷ [])) 8 ≡ false = le-ltb _ 8 (omega (arith, full, long)) in
+        let weak : Bool = nat_lt 10 (count_ones print.mask) in
+        let judge : Bool → Result Item WireFault = λ c. cond c (Err (BadMask place)) (Ok (item.Print print)) in
+        let outcome : print_outcome place (take 12 (gathered reader.group ++ b ∷ [])) ≡ judge weak =
+        ap (print_outcome place) held ∙ ap (λ c. cond c (Ok item.Nothing) (judge weak)) enough in
+        let sent : completed all_sent_prints t ≡ print ∷ [] = completed-more all_sent_prints text b (print ∷ []) grown in
+        let bad : bad_print t ≡ (weak || false) =
+        ap (list_any (has_bad_mask (channels_of t))) sent ∙ ap (λ c. (c && weak) || false) (carries_as_before ∙ carries) in
+        let P : Result Item WireFault → Type 0 = λ r. Brings r new limit t in
+        elim (known weak) [
+          | inl many ↦ subst P (sym (outcome ∙ ap judge many))
+              (met_by fine ∙ ap (λ c. cond c (Some (BadMask place)) None) (bad ∙ ap (λ c. c || false) many))
+          | inr few ↦ subst P (sym (outcome ∙ ap judge few)) (
+            met_by fine ∙ ap (λ c. cond c (Some (BadMask place)) None) (bad ∙ ap (λ c. c || false) few),
+            sym (print_item (print ∷ []) sent),
+            stands new same_form same_packet
+                (left ∙ ap left_of_print held ∙ ap (λ c. cond c bytes []) enough ∙ sym (unfinished ∙ rest_after)),
+          )
+        ]
+
+    brings_print : Brings (print_outcome place (take 12 (gathered reader.group ++ b ∷ []))) new limit (text ++ b ∷ [])
+    brings_print =
+        let by = tests Data is in
+        elim (next_prints text b) [
+          | NoPrint gap same last ↦ absurd (true_isnt_false (sym gap ∙ by.begin_test))
+          | NoData no_gap no_data same last ↦ absurd (true_isnt_false (sym by.data_test ∙ no_data))
+          | PartOfPrint no_gap data_byte short same rest ↦ part_brings short same rest
+          | WholePrint no_gap data_byte full grown rest ↦ whole_brings full grown rest
+        ]
+
+    pub brings_outcome : (outcome : Result Item WireFault) → outcome ≡ print_outcome place (take 12 (gathered reader.group ++ b ∷ []))
+        → Brings outcome new limit (text ++ b ∷ [])
+    brings_outcome outcome made =
+        let P : Result Item WireFault → Type 0 = λ r. Brings r new limit (text ++ b ∷ []) in
+        subst P (sym made) brings_print
+
+-- a reader whose packet has taken the next byte
+pub has_byte : (text : List ℕ) (b : ℕ) (old new : Reader) → 6 ≤ length text → length text < 2 ^ 64 - 1 → StandsAfter old text
+    → new.form ≡ old.form → new.group ≡ old.group → length_size old.packet ≡ Two
+    → ((bytes : List ℕ) → length bytes < 2 ^ 64 - 1 → IsLast old.packet bytes
+    → IsLast new.packet (if is_over (length_size old.packet) bytes then b ∷ [] else bytes ++ b ∷ []))
+    → HasByte new text b
+has_byte text b old new late room stands same_form same_group two pushed =
+    let packet_now : List ℕ = last_packet text in
+    let short : length (last_packet text) ≤ length text = last_packet-le text in
+    let P : LengthSize → Type 0 = λ size. IsLast new.packet (cond (is_over size packet_now) (b ∷ []) (packet_now ++ b ∷ [])) in
+    let Q : List ℕ → Type 0 = IsLast new.packet in
+    record {
+      channels = ap (λ form. form.channels) same_form ∙ stands.channels (omega arith);
+      factor = ap (λ form. form.factor) same_form ∙ stands.factor (omega arith);
+      packet = subst Q (sym (last_packet-next text b late)) (subst P two (pushed packet_now (omega (arith, short, room)) stands.packet));
+      group = ap gathered same_group ∙ stands.group;
+    }

@@ -1,0 +1,44 @@
+use Rattle.std.proofs.Common.{◌≡◌, ℕ, ◌∙◌, ◌+◌, ◌<◌, ◌++◌, ◌∷◌, [], ap, sym, refl, arith, length, true, false, Bool, cond, Some}
+use Rattle.std.specs.Prelude.{◌==◌}
+use Rattle.std.proofs.lemmas.Bool.{eq-eqb}
+use Rattle.std.proofs.lemmas.Bool.Decides.{eqb_tells}
+use Rattle.hk_base.specs.declared.plain.WireFault.{WireFault}
+use Rattle.hk_base.specs.declared.plain.WireFault.TheVariants.{BadHello}
+use Rattle.hk_base.specs.declared.plain.Form.{Form}
+use Rattle.hk_spec_streams.specs.Station.{channels_of, factor_of}
+use Rattle.hk_station_wire.specs.declared.item.Item.{Item}
+use Rattle.hk_station_wire.specs.declared.item.Item.TheVariants.{Hello, Nothing}
+use Rattle.hk_station_wire.specs.Steps.{hello_allows}
+use Rattle.hk_station_wire.proofs.reader.Reader.take_hello.Goals as goal
+use Rattle.hk_station_wire.proofs.Brought.{hello_brings, hello_meets, same_channels, here, not_five, form_is}
+
+pub returns-then-not-hello_allows : goal.returns-then-not-hello_allows
+returns-then-not-hello_allows c limit text place room stands =
+    hello_meets limit text c.args.byte c.args.self.now (omega arith) (omega arith) stands
+    (ap (λ p. hello_allows p c.args.self.now.form.channels c.args.byte) (sym place) ∙ sym c.hello_allows.ensures ∙ c.if-not-hello_allows.true)
+    ∙ ap (λ p. Some (BadHello p)) (sym place)
+
+pub returns-in-5 : goal.returns-in-5
+returns-in-5 c limit text place room stands =
+    let allowed : hello_allows (length text) c.args.self.now.form.channels c.args.byte ≡ true =
+    ap (λ p. hello_allows p c.args.self.now.form.channels c.args.byte) (sym place) ∙ sym c.hello_allows.ensures ∙ c.if-not-hello_allows.false in
+    let five : 5 ≡ length text = omega arith in
+    let channels : c.args.self.now.form.channels ≡ channels_of (text ++ c.args.byte ∷ []) = stands.channels (omega arith) ∙ sym (same_channels text c.args.byte (omega arith)) in
+    let factor : c.args.byte ≡ factor_of (text ++ c.args.byte ∷ []) = sym (here text c.args.byte 5 five) in
+    hello_brings limit text c.args.byte c.args.self.now _ _ (omega arith) (omega arith) stands allowed refl refl
+    (λ h. channels) (λ h. factor) (form_is text c.args.byte _ _ five channels factor)
+
+pub returns-in-4 : goal.returns-in-4
+returns-in-4 c limit text place room stands =
+    let allowed : hello_allows (length text) c.args.self.now.form.channels c.args.byte ≡ true =
+    ap (λ p. hello_allows p c.args.self.now.form.channels c.args.byte) (sym place) ∙ sym c.hello_allows.ensures ∙ c.if-not-hello_allows.false in
+    let four : 4 ≡ length text = omega arith in
+    hello_brings limit text c.args.byte c.args.self.now _ _ (omega arith) (omega arith) stands allowed refl refl
+    (λ h. sym (here text c.args.byte 4 four)) (λ h. absurd (omega arith)) (not_five text c.args.byte (omega arith))
+
+pub returns-in_default : goal.returns-in_default
+returns-in_default c limit text place room stands =
+    let allowed : hello_allows (length text) c.args.self.now.form.channels c.args.byte ≡ true =
+    ap (λ p. hello_allows p c.args.self.now.form.channels c.args.byte) (sym place) ∙ sym c.hello_allows.ensures ∙ c.if-not-hello_allows.false in
+    hello_brings limit text c.args.byte c.args.self.now _ _ (omega arith) (omega arith) stands allowed refl refl
+    (λ h. absurd (omega arith)) (λ h. absurd (omega arith)) (not_five text c.args.byte (omega arith))

@@ -1,0 +1,204 @@
+// What a station's bytes bring, as long as no fault is met.
+ghost use Rattle.std.specs.Prelude.{◌≡◌, ◌≤◌, ◌<◌, ◌+◌, ◌-◌, ◌^◌, ◌++◌, ℕ, List, [], ◌∷◌, length, take};
+ghost use Rattle.hk_spec_streams.specs.Station.{station_grammar, station_length_fits, factors_for};
+ghost use Rattle.hk_spec_streams.specs.Pieces.{is_one_of};
+ghost use Rattle.hk_spec_streams.specs.Grammar.{ends_at_start};
+ghost use Rattle.hk_station_wire.specs.Held.{gathered, length_size};
+ghost use Rattle.hk_station_wire.specs.declared.packet.LengthSize.TheVariants.{Two};
+
+use crate::gathered::Gathered;
+use crate::item::Item;
+use crate::packet::{LastPacket, LengthSize};
+use hk_base::{Form, Print, WireFault};
+
+pub const HELLO_SIZE: u64 = 6;
+
+const DATA: u8 = 1;
+
+const FENCE: u8 = 2;
+
+const GAP: u8 = 3;
+
+const PRINT_SIZE: usize = 8;
+
+const MOST_WEAK_BITS: u32 = 10;
+
+/// The form, the last packet, and what the last segment has beyond its whole prints.
+#[derive(Debug, Drop)]
+pub struct Reader {
+    form: Form,
+    packet: LastPacket,
+    group: Gathered,
+    ghost short_lengths: { length_size packet ≡ Two },
+}
+
+impl Reader {
+    ghost use Rattle.hk_station_wire.specs.Taken.{StandsAfter, Brings, HasByte};
+
+    pub fn new() -> Reader
+        ensures { StandsAfter result [] }
+    {
+        Reader {
+            form: Form {
+                channels: 0,
+                factor: 0,
+            },
+            packet: LastPacket::new(LengthSize::Two),
+            group: Gathered::new(),
+        }
+    }
+
+    /// Takes the byte at this place: what it brings, or the fault that it meets.
+    pub fn take(&mut self, place: u64, byte: u8) -> Result<Item, WireFault>
+        requires { place < 2 ^ 64 - 1 }
+        ensures { (limit : ℕ) (text : List ℕ) → place ≡ length text → place < limit → StandsAfter self.old text
+            → Brings result self.new limit (text ++ byte ∷ []) }
+    {
+        if place < HELLO_SIZE {
+            self.take_hello(place, byte)
+        } else {
+            self.packet.push(byte);
+            self.take_packet(place, byte)
+        }
+    }
+
+    /// Whether a packet may begin at this place.
+    pub fn is_at_start(&self, place: u64) -> bool
+        ensures { (text : List ℕ) → place ≡ length text → StandsAfter self.now text → result ≡ ends_at_start station_grammar text }
+    {
+        HELLO_SIZE <= place && self.packet.is_over()
+    }
+
+    fn take_hello(&mut self, place: u64, byte: u8) -> Result<Item, WireFault>
+        requires { place < 6 }
+        ensures { (limit : ℕ) (text : List ℕ) → place ≡ length text → place < limit → StandsAfter self.old text
+            → Brings result self.new limit (text ++ byte ∷ []) }
+    {
+        if !hello_allows(place, self.form.channels, byte) {
+            return Err(WireFault::BadHello(place));
+        }
+        match place {
+            4 => self.form.channels = byte,
+            5 => {
+                self.form.factor = byte;
+                return Ok(Item::Hello(self.form));
+            }
+            _ => {}
+        }
+        Ok(Item::Nothing)
+    }
+
+    // The same behind the hello, where the last packet has the byte already.
+    fn take_packet(&mut self, place: u64, byte: u8) -> Result<Item, WireFault>
+        requires { 6 ≤ place }
+        ensures { (limit : ℕ) (text : List ℕ) → place ≡ length text → place < limit → HasByte self.old text byte
+            → Brings result self.new limit (text ++ byte ∷ []) }
+    {
+        let count = self.packet.count();
+        let kind = self.packet.kind();
+        if let Some(fault) = head_fault(place, count, kind, self.packet.length()) {
+            return Err(fault);
+        }
+        match part_of(kind, count) {
+            Part::Data if self.form.channels != 0 => Ok(Item::Byte(byte)),
+            Part::Data => take_print(&mut self.group, place, byte),
+            Part::FenceEnd => Ok(Item::Fence(self.packet.number(3))),
+            Part::GapBegin => {
+                self.group = Gathered::new();
+                Ok(Item::Nothing)
+            }
+            Part::GapEnd => Ok(Item::Gap),
+            Part::Other => Ok(Item::Nothing),
+        }
+    }
+}
+
+// What a byte is in its packet.
+#[derive(Clone, Copy, Debug, PartialEq, Eq)]
+enum Part {
+    Data,
+    FenceEnd,
+    GapBegin,
+    GapEnd,
+    Other,
+}
+
+ghost use Rattle.hk_station_wire.specs.Steps.{hello_allows, is_kind, head_fault, part_of, left_of_print, print_outcome};
+
+fn hello_allows(place: u64, channels: u8, byte: u8) -> bool
+    requires { place < 6 }
+    ensures { result ≡ hello_allows place channels byte }
+{
+    match place {
+        0 => byte == b'H',
+        1 => byte == b'K',
+        2 => byte == b'S',
+        3 => byte == b'1',
+        4 => byte <= 2,
+        _ => factor_allowed(channels, byte),
+    }
+}
+
+fn factor_allowed(channels: u8, byte: u8) -> bool
+    ensures { result ≡ is_one_of (factors_for channels) byte }
+{
+    match channels {
+        0 => byte == 1,
+        _ => byte == 1 || byte == 2 || byte == 4 || byte == 8,
+    }
+}
+
+fn is_kind(kind: u8) -> bool
+    ensures { result ≡ is_kind kind }
+{
+    kind == DATA || kind == FENCE || kind == GAP
+}
+
+fn length_fits(kind: u8, length: u32) -> bool
+    ensures { result ≡ station_length_fits kind length }
+{
+    kind == DATA || (kind == FENCE && length == 4) || (kind == GAP && length == 0)
+}
+
+fn head_fault(place: u64, count: u64, kind: u8, packet_length: u32) -> Option<WireFault>
+    requires { 6 ≤ place }
+    ensures { result ≡ head_fault place count kind packet_length }
+{
+    match count {
+        1 if !is_kind(kind) => Some(WireFault::BadKind(place)),
+        3 if !length_fits(kind, packet_length) => Some(WireFault::BadLength(place - 1)),
+        _ => None,
+    }
+}
+
+fn part_of(kind: u8, count: u64) -> Part
+    ensures { result ≡ part_of kind count }
+{
+    match kind {
+        DATA if count > 3 => Part::Data,
+        FENCE if count == 7 => Part::FenceEnd,
+        GAP if count == 1 => Part::GapBegin,
+        GAP if count == 3 => Part::GapEnd,
+        _ => Part::Other,
+    }
+}
+
+// Takes the next byte of the prints of a segment.
+fn take_print(group: &mut Gathered, place: u64, byte: u8) -> Result<Item, WireFault>
+    ensures left { gathered group.new ≡ left_of_print (take 12 (gathered group.old ++ byte ∷ [])) }
+    ensures outcome { result ≡ print_outcome place (take 12 (gathered group.old ++ byte ∷ [])) }
+{
+    group.push(byte);
+    if group.len() < PRINT_SIZE {
+        return Ok(Item::Nothing);
+    }
+    let print = Print {
+        word: group.number(0),
+        mask: group.number(4),
+    };
+    *group = Gathered::new();
+    if print.mask.count_ones() > MOST_WEAK_BITS {
+        return Err(WireFault::BadMask(place));
+    }
+    Ok(Item::Print(print))
+}
