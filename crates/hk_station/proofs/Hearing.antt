@@ -21,7 +21,7 @@ use Rattle.hk_station_wire.specs.declared.wire.Wire.{Wire}
 use Rattle.hk_station.specs.declared.station.Station.{Station}
 use Rattle.hk_station.specs.Taken.{HasForm, HasTaken}
 use Rattle.hk_station.specs.Hearing.{IsHearing}
-use Rattle.hk_station.specs.Outcome.{blocks_gained, lines_gained, block_at, head_at}
+use Rattle.hk_station.specs.Outcome.{blocks_gained, lines_gained, looks_gained, block_at, head_at}
 use Rattle.hk_station.proofs.Meaning.{no_fence}
 use Rattle.hk_station.proofs.Stepping.{meets_none}
 
@@ -36,11 +36,11 @@ module _ (rules : Rules) (l : Listener) (b v : ℕ) (no_fault : station_fault ru
   heard_by : (gained : List Block) → completed (blocks rules.setting) (l.used ++ b ∷ []) ≡ gained → heard rules v l b ≡ goes (cond (nat_lt 0 (length gained)) v l.version)
   heard_by gained is =
       let by : Option WireFault → List Fence → List Block → Listener = λ fault fs bs.
-          option_map_or (λ fault. record l { end = Some (ends.Wire fault) }) fault (record {
-            used = t;
-            version = cond (nat_lt 0 (length bs + length (map (λ fence. fence.asked) fs))) v l.version;
-            end = option_map (λ a. ends.FenceAhead a v) (find (λ a. nat_lt v a) (map (λ fence. fence.asked) fs));
-          }) in
+      option_map_or (λ fault. record l { end = Some (ends.Wire fault) }) fault (record {
+        used = t;
+        version = cond (nat_lt 0 (length bs + length (map (λ fence. fence.asked) fs))) v l.version;
+        end = option_map (λ a. ends.FenceAhead a v) (find (λ a. nat_lt v a) (map (λ fence. fence.asked) fs));
+      }) in
       let sum : length gained + 0 ≡ length gained = omega arith in
       ap (λ fault. by fault (completed fences t) (completed (blocks rules.setting) t)) (meets_none rules.bytes l.used b no_fault)
       ∙ ap (λ fs. by None fs (completed (blocks rules.setting) t)) (no_fence l.used b form)
@@ -66,6 +66,9 @@ module _ (rules : Rules) (l : Listener) (b v : ℕ) (no_fault : station_fault ru
     pub gains_none : blocks_gained rules v l b ≡ []
     gains_none = gained_by [] l.version none_completed heard_none
 
+    pub no_looks : looks_gained rules v l b ≡ []
+    no_looks = ap (map (λ block. v)) gains_none
+
     pub no_lines : (number : ℕ) (songs : Songs) → lines_gained rules number v songs l b ≡ []
     no_lines number songs = ap (λ bs. flat_map printed_text (map (report_in number v songs) bs)) gains_none
 
@@ -79,6 +82,9 @@ module _ (rules : Rules) (l : Listener) (b v : ℕ) (no_fault : station_fault ru
 
     pub gains_one : blocks_gained rules v l b ≡ (length (blocks rules.setting l.used), block_at ring) ∷ []
     gains_one = gained_by (block_at ring ∷ []) v one_completed heard_one
+
+    pub one_look : looks_gained rules v l b ≡ v ∷ []
+    one_look = ap (map (λ block. v)) gains_one
 
     pub one_line : (station : Station) (number : ℕ) (songs : Songs) → station.ring ≡ ring → station.number ≡ number
         → station.blocks ≡ length (blocks rules.setting l.used) → lines_gained rules number v songs l b ≡ line (head_at station v) (matches_in station.ring songs)

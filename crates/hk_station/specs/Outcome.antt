@@ -1,5 +1,5 @@
 -- What the hearing of a byte comes to.
-use Rattle.std.specs.Prelude.{⊤, ℕ, Bool, true, false, List, map, flat_map}
+use Rattle.std.specs.Prelude.{◌≡◌, ⊤, ℕ, Bool, true, false, List, ◌++◌, map, flat_map, Option, option_map}
 use Rattle.hk_spec_matching.specs.Catalogue.{Songs}
 use Rattle.hk_spec_streams.specs.Blocks.{Block}
 use Rattle.hk_spec_lines.specs.Lines.{printed_text}
@@ -36,6 +36,12 @@ OnSinkFault Going P = ⊤
 OnSinkFault NotBuilt P = ⊤
 OnSinkFault SinkFault P = P
 
+-- a fact where the byte was heard
+abbrev pub OnHeard : Heard → Type 0 → Type 0
+OnHeard Going P = P
+OnHeard NotBuilt P = ⊤
+OnHeard SinkFault P = P
+
 -- a fact where no write failed
 abbrev pub OnNoFault : Heard → Type 0 → Type 0
 OnNoFault Going P = P
@@ -49,6 +55,14 @@ blocks_gained rules v l byte = new_blocks rules l (heard rules v l byte)
 -- their report lines, at a version with these songs
 abbrev pub lines_gained : Rules → ℕ → ℕ → Songs → Listener → ℕ → List ℕ
 lines_gained rules station v songs l byte = flat_map printed_text (map (report_in station v songs) (blocks_gained rules v l byte))
+
+-- Looks at these versions were made, where the view tells them.
+abbrev pub Looked : List ℕ → Option (List ℕ) → Option (List ℕ) → Type 0
+Looked versions old new = new ≡ option_map (λ before. before ++ versions) old
+
+-- the version of a look for each block
+abbrev pub looks_gained : Rules → ℕ → Listener → ℕ → List ℕ
+looks_gained rules v l byte = map (λ block. v) (blocks_gained rules v l byte)
 
 -- what a station's wire and ring make of a byte, without a look
 abbrev pub is_refused : Taken → Bool

@@ -8,6 +8,8 @@
 #![tactic(auto)]
 
 mod station;
+#[cfg(test)]
+mod tests;
 
 pub use hk_base::{NoMemory, Sink, Steps};
 pub use hk_block::{Looker, Scratch};

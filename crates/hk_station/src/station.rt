@@ -80,7 +80,7 @@ pub struct Station {
 impl Station {
     ghost use Rattle.hk_station.specs.Hearing.{IsHearing, ForEach, ForEachText, unheard, number_of, blocks_of, version_of};
     ghost use Rattle.hk_station.specs.Taken.{HasTaken};
-    ghost use Rattle.hk_station.specs.Outcome.{OnGoing, OnNotBuilt, OnSinkFault, OnNoFault, is_refusal, blocks_gained, lines_gained, is_refused, OnNothing, OnBlock, IfTaken, block_at, head_at};
+    ghost use Rattle.hk_station.specs.Outcome.{OnGoing, OnNotBuilt, OnSinkFault, OnHeard, OnNoFault, is_refusal, blocks_gained, lines_gained, looks_gained, Looked, is_refused, OnNothing, OnBlock, IfTaken, block_at, head_at};
 
     /// Station `number`, before its first byte. Its blocks begin `hop` prints apart, and its stream has at most `limit`
     /// bytes. It takes all memory that it needs.
@@ -136,6 +136,7 @@ impl Station {
 
         ensures refused_view { OnNotBuilt result (view.new ≡ view.old) }
         ensures unlooked { OnGoing result (ForEach self.old (λ rules l. blocks_gained rules (V.at view.new) l byte ≡ [] → view.new ≡ view.old)) }
+        ensures shows { OnHeard result (ForEach self.old (λ rules l. Looked (looks_gained rules (V.at view.new) l byte) (V.shown view.old) (V.shown view.new))) }
         ensures never_back { V.at view.old ≤ V.at view.new }
         ensures known { V.past view.old (V.at view.old) ≡ Some (V.songs view.old) → V.past view.new (V.at view.new) ≡ Some (V.songs view.new) }
         ensures past_stays { KeepsPast (V.past view.old) (V.past view.new) }
@@ -217,6 +218,7 @@ impl Station {
         ensures cause { OnSinkFault result (Rose (K.faults log.old) (K.faults log.new)) }
         ensures never_falls { K.faults log.old ≤ K.faults log.new }
         ensures counts_failures { OnNoFault result (K.faults log.new ≡ K.faults log.old) }
+        ensures shows { Looked (V.at view.new ∷ []) (V.shown view.old) (V.shown view.new) }
         ensures never_back { V.at view.old ≤ V.at view.new }
         ensures known { V.past view.new (V.at view.new) ≡ Some (V.songs view.new) }
         ensures past_stays { KeepsPast (V.past view.old) (V.past view.new) }

@@ -8,9 +8,9 @@ use Rattle.hk_spec_runs.specs.Replay.{Listener, heard}
 use Rattle.hk_block.specs.Looker.{matches_in}
 use Rattle.hk_station.specs.Taken.{HasTaken}
 use Rattle.hk_station.specs.Hearing.{IsHearing, ForEach}
-use Rattle.hk_station.specs.Outcome.{lines_gained, blocks_gained, block_at, head_at}
-use Rattle.hk_station.proofs.Hearing.{heard_none, no_lines, heard_one, gains_one, one_line}
-use Rattle.hk_station.proofs.Outcomes.{going_from, torn_from, going_as, wrote_nothing}
+use Rattle.hk_station.specs.Outcome.{lines_gained, blocks_gained, looks_gained, Looked, block_at, head_at}
+use Rattle.hk_station.proofs.Hearing.{heard_none, no_lines, heard_one, gains_one, one_line, one_look, no_looks}
+use Rattle.hk_station.proofs.Outcomes.{going_from, torn_from, going_as, heard_as, wrote_nothing}
 use Rattle.hk_station.proofs.station.Station.hear.Goals as goal
 
 pub returns-in-Nothing-clause-hears : goal.returns-in-Nothing-clause-hears
@@ -88,3 +88,20 @@ returns-in-Block-clause-unlooked g c =
     let now : HasTaken rules c.take.new.self.wire c.take.new.self.ring (l.used ++ c.args.byte ∷ []) = c.in-Block.ensures.takes rules l.used h.taken more in
     let one = gains_one rules l c.args.byte (g.V.Looker.at c.report.new.view) now.no_fault now.form c.take.new.self.ring (c.in-Block.ensures.block rules l.used h.taken more) in
     absurd (let both : length (blocks_gained rules (g.V.Looker.at c.report.new.view) l c.args.byte) ≡ 1 = ap length one in let neither : 0 ≡ 1 = sym (ap length none) ∙ both in omega arith))
+
+pub returns-in-Nothing-clause-shows : goal.returns-in-Nothing-clause-shows
+returns-in-Nothing-clause-shows g c = λ rules l h more.
+    let now = c.in-Nothing.ensures.takes rules l.used h.taken more in
+    subst (λ versions. Looked versions (g.V.Looker.shown c.args.view.now) (g.V.Looker.shown c.args.view.now))
+    (sym (no_looks rules l c.args.byte (g.V.Looker.at c.args.view.now) now.no_fault now.form (c.in-Nothing.ensures.nothing rules l.used h.taken more)))
+    (wrote_nothing (g.V.Looker.shown c.args.view.now))
+
+pub returns-in-Block-clause-shows : goal.returns-in-Block-clause-shows
+returns-in-Block-clause-shows g c =
+    heard_as c.report.result
+    (ForEach c.args.self.now (λ rules l. Looked (looks_gained rules (g.V.Looker.at c.report.new.view) l c.args.byte) (g.V.Looker.shown c.args.view.now) (g.V.Looker.shown c.report.new.view)))
+    (λ rules l h more.
+    let now : HasTaken rules c.take.new.self.wire c.take.new.self.ring (l.used ++ c.args.byte ∷ []) = c.in-Block.ensures.takes rules l.used h.taken more in
+    subst (λ versions. Looked versions (g.V.Looker.shown c.args.view.now) (g.V.Looker.shown c.report.new.view))
+    (sym (one_look rules l c.args.byte (g.V.Looker.at c.report.new.view) now.no_fault now.form c.take.new.self.ring (c.in-Block.ensures.block rules l.used h.taken more)))
+    c.report.ensures.shows)
