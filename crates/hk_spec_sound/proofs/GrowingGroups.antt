@@ -1,5 +1,5 @@
 -- Groups of one size, one behind the other: an item more completes a group, or is left behind the whole groups.
-use Rattle.std.proofs.Common.{◌≡◌, ℕ, suc, ◌+◌, ◌-◌, ◌*◌, ◌/◌, ◌%◌, ◌<◌, ◌≤◌, List, [], ◌∷◌, ◌++◌, length, take, drop, refl, sym, ◌∙◌, ap, subst, arith, length-append, mod-lt, inl, inr, cond}
+use Rattle.std.proofs.Common.{◌≡◌, ℕ, suc, ◌+◌, ◌-◌, ◌*◌, ◌/◌, ◌%◌, ◌<◌, ◌≤◌, List, [], ◌∷◌, ◌++◌, length, take, drop, sym, ◌∙◌, ap, arith, length-append, mod-lt, inl, inr, cond}
 use Rattle.std.proofs.lemmas.List.{drop-append-le, take_all, drop_all, length-drop}
 use Rattle.std.proofs.lemmas.Bool.Decides.{leb_tells}
 use Rattle.std.proofs.lemmas.Nat.{div-add-mod', div-mul-add}
@@ -54,9 +54,10 @@ groups-append_whole {A} size xs x some full =
     ∙ ap (take size) (drop-append-le (q * size) xs (x ∷ []) inside)
     ∙ take_all size group (omega (arith, group_long, full)) in
     let end : length (xs ++ x ∷ []) / size * size ≡ length xs + 1 =
-    ap (λ k. k / size * size) long ∙ ap (λ k. k * size) quotient ∙ omega (arith, more) in
-    (windows-append_one size size xs x rises ∙ ap (λ w. windows size size xs ++ w ∷ []) last,
-     drop_all (length (xs ++ x ∷ []) / size * size) (xs ++ x ∷ []) (omega (arith, end, long)))
+    ap (λ k. k / size * size) long ∙ ap (λ k. k * size) quotient ∙ omega (arith, more) in (
+      windows-append_one size size xs x rises ∙ ap (λ w. windows size size xs ++ w ∷ []) last,
+      drop_all (length (xs ++ x ∷ []) / size * size) (xs ++ x ∷ []) (omega (arith, end, long)),
+    )
 
 -- the item is left too
 pub groups-append_part : {A : Type 0} (size : ℕ) (xs : List A) (x : A) → 0 < size → length (rest_of size xs) + 1 < size
@@ -73,6 +74,7 @@ groups-append_part size xs x some part =
     let stays : window_count size size (n + 1) ≡ window_count size size n =
     group_count size (n + 1) some ∙ quotient ∙ sym (group_count size n some) in
     let inside : length xs / size * size ≤ length xs = omega (arith, whole) in
-    let start : length (xs ++ x ∷ []) / size ≡ length xs / size = ap (λ k. k / size) long ∙ quotient in
-    (windows-append_none size size xs x stays,
-     ap (λ k. drop (k * size) (xs ++ x ∷ [])) start ∙ drop-append-le (q * size) xs (x ∷ []) inside)
+    let start : length (xs ++ x ∷ []) / size ≡ length xs / size = ap (λ k. k / size) long ∙ quotient in (
+      windows-append_none size size xs x stays,
+      ap (λ k. drop (k * size) (xs ++ x ∷ [])) start ∙ drop-append-le (q * size) xs (x ∷ []) inside,
+    )

@@ -1,27 +1,21 @@
 -- A station's text with one more byte: its packets, segments, sent prints and fences.
-use Rattle.std.proofs.Common.{◌≡◌, ℕ, suc, ◌+◌, ◌-◌, ◌<◌, ◌≤◌, List, [], ◌∷◌, ◌++◌, length, take, drop, map, flat_map, filter_map, slice_index, refl, sym, ◌∙◌, ap, subst, arith, length-append, append_assoc, Bool, true, false, inl, inr, Option, None, Some, cond}
-use Rattle.std.proofs.lemmas.List.{append-nil, drop_all, take-append-le, map-append}
+use Rattle.std.proofs.Common.{◌≡◌, ℕ, ◌+◌, ◌-◌, ◌<◌, ◌≤◌, List, [], ◌∷◌, ◌++◌, length, drop, map, flat_map, slice_index, refl, sym, ◌∙◌, ap, arith, length-append, append_assoc, Bool, true, false, inl, inr, cond}
+use Rattle.std.proofs.lemmas.List.{append-nil, drop_all, map-append}
 use Rattle.std.proofs.lemmas.Grind.{flat_map-append}
-use Rattle.std.proofs.lemmas.List.Elements.{filter_map-append}
 use Rattle.std.proofs.lemmas.List.Splits.{slice_split-cons_yes, slice_split-cons_no}
 use Rattle.std.proofs.lemmas.Bool.{eqb-true, le-leb}
 use Rattle.std.proofs.lemmas.Bool.Decides.{leb_tells, eqb_tells}
-use Rattle.std.proofs.Math.Seq.{get_or-append_seam, take-append_seam, drop-append_seam, drop-nil}
-use Rattle.std.specs.Prelude.{◌&&◌, ◌||◌, ◌==◌, ◌⊎◌, nat_lt, nat_le, if◌then◌else◌}
-use Rattle.std.specs.Int.{w16, w32, from_be_bytes}
-use Rattle.std.specs.Option.{option_map_or}
-use Rattle.std.specs.List.{slice_split, onto_first, last_or, cons_option, list_all}
-use Rattle.hk_spec_sound.specs.Windows.{windows}
-use Rattle.hk_base.specs.declared.plain.Print.{Print}
-use Rattle.hk_spec_sound.specs.Groups.{rest_of}
-use Rattle.hk_spec_sound.proofs.GrowingGroups.{groups-append_whole, groups-append_part, rest_is_short}
-use Rattle.hk_spec_streams.specs.Pieces.{Piece, pieces, pieces_within, last_bytes, completed, is_whole}
-use Rattle.hk_spec_streams.specs.Grammar.{packets, packet_size, kind_of, payload_of, ends_at_start}
-use Rattle.hk_spec_streams.specs.Station.{station_grammar, segments, fences, Fence, fence_of, data_of, sent_print, sent_prints, DATA, FENCE, GAP}
-use Rattle.hk_spec_streams.specs.LastPacket.{last_packet, last_byte, begins_gap, ends_with_data, last_segment, all_sent_prints}
+use Rattle.std.proofs.Math.Seq.{get_or-append_seam}
+use Rattle.std.specs.Prelude.{◌&&◌, ◌==◌, nat_lt, if◌then◌else◌}
+use Rattle.std.specs.Int.{w16}
+use Rattle.std.specs.List.{slice_split, onto_first, list_all}
+use Rattle.hk_spec_streams.specs.Pieces.{Piece, pieces, pieces_within, last_bytes, is_whole}
+use Rattle.hk_spec_streams.specs.Grammar.{packets, packet_size, kind_of, ends_at_start}
+use Rattle.hk_spec_streams.specs.Station.{station_grammar, segments, data_of, DATA, GAP}
+use Rattle.hk_spec_streams.specs.LastPacket.{last_packet, last_byte, begins_gap, ends_with_data}
 use Rattle.hk_spec_streams.proofs.PacketSize.{packet_size_16}
 use Rattle.hk_spec_streams.proofs.NextFault.{by_bytes}
-use Rattle.hk_spec_streams.proofs.GrowingPackets.{last_bytes-le, all_whole, Last, Next, Begins, Goes, next_behind, last_bytes-next, last_bytes-append, last_or-append, over, known}
+use Rattle.hk_spec_streams.proofs.GrowingPackets.{last_bytes-le, all_whole, Next, Begins, Goes, next_behind, last_bytes-next, last_bytes-append, over, known}
 
 -- no packet before the hello is there
 pub packets_short : (text : List ℕ) → length text ≤ 6 → packets station_grammar text ≡ []
@@ -103,12 +97,12 @@ parts_of p (y ∷ ys) =
     let later = parts_of p ys in
     elim (known (p y)) [
       | inl cuts ↦ record {
-          front = [] ∷ later.front;
-          part = later.part;
-          is = slice_split-cons_yes p y ys cuts ∙ ap (λ parts. [] ∷ parts) later.is;
-          joins = λ x no. slice_split-cons_yes p y (ys ++ x ∷ []) cuts ∙ ap (λ parts. [] ∷ parts) (later.joins x no);
-          begins = λ x yes. slice_split-cons_yes p y (ys ++ x ∷ []) cuts ∙ ap (λ parts. [] ∷ parts) (later.begins x yes);
-        }
+        front = [] ∷ later.front;
+        part = later.part;
+        is = slice_split-cons_yes p y ys cuts ∙ ap (λ parts. [] ∷ parts) later.is;
+        joins = λ x no. slice_split-cons_yes p y (ys ++ x ∷ []) cuts ∙ ap (λ parts. [] ∷ parts) (later.joins x no);
+        begins = λ x yes. slice_split-cons_yes p y (ys ++ x ∷ []) cuts ∙ ap (λ parts. [] ∷ parts) (later.begins x yes);
+      }
       | inr stays ↦ onto_parts p y ys stays later.front later.part later.is later.joins later.begins
     ]
 
@@ -146,7 +140,7 @@ segments_parts ps =
 abbrev data_byte : List ℕ → ℕ → List ℕ
 data_byte bytes b = if (slice_index bytes 0 == DATA) && nat_lt 3 (length bytes) then b ∷ [] else []
 
-abbrev piece_at : ℕ → List ℕ → Piece
+abbrev pub piece_at : ℕ → List ℕ → Piece
 piece_at place bytes = record { place = place; bytes = bytes }
 
 data_in : (c : Bool) (xs ys : List ℕ) → cond c (xs ++ ys) [] ≡ cond c xs [] ++ cond (c && true) ys []
@@ -271,178 +265,9 @@ pub next_segments : (text : List ℕ) (b : ℕ) → NextSegments text b
 next_segments text b = elim (leb_tells 6 (length text)) [
   | inr early ↦ next_segments_hello text b (omega (arith, early.1))
   | inl late ↦ elim (next_packet text b late.1) [
-      | Begins begins grown ↦ next_segments_begin text b (length text) grown
-      | Goes front last goes old grown is ↦ next_segments_go text b front last.place last.bytes is.some old grown
-    ]
-]
-
-last_segment-append : (text : List ℕ) (front : List (List ℕ)) (part : List ℕ) → segments text ≡ front ++ part ∷ [] → last_segment text ≡ part
-last_segment-append text front part is = ap (λ parts. option_map_or (λ segment. segment) (last_or None parts) []) is ∙ ap (λ o. option_map_or (λ segment. segment) o []) (last_or-append None front part)
-
--- One byte more: the sent prints gain one where it completes eight bytes of the last segment.
-pub data NextPrints (text : List ℕ) (b : ℕ) : Type 0 where
-  NoPrint : begins_gap (text ++ b ∷ []) ≡ true → all_sent_prints (text ++ b ∷ []) ≡ all_sent_prints text
-      → last_segment (text ++ b ∷ []) ≡ [] → NextPrints text b
-  NoData : begins_gap (text ++ b ∷ []) ≡ false → ends_with_data (text ++ b ∷ []) ≡ false
-      → all_sent_prints (text ++ b ∷ []) ≡ all_sent_prints text
-      → last_segment (text ++ b ∷ []) ≡ last_segment text → NextPrints text b
-  PartOfPrint : begins_gap (text ++ b ∷ []) ≡ false → ends_with_data (text ++ b ∷ []) ≡ true
-      → length (rest_of 8 (last_segment text)) < 7
-      → all_sent_prints (text ++ b ∷ []) ≡ all_sent_prints text
-      → rest_of 8 (last_segment (text ++ b ∷ [])) ≡ rest_of 8 (last_segment text) ++ b ∷ [] → NextPrints text b
-  WholePrint : begins_gap (text ++ b ∷ []) ≡ false → ends_with_data (text ++ b ∷ []) ≡ true
-      → length (rest_of 8 (last_segment text)) ≡ 7
-      → all_sent_prints (text ++ b ∷ []) ≡ all_sent_prints text ++ sent_print (rest_of 8 (last_segment text) ++ b ∷ []) ∷ []
-      → rest_of 8 (last_segment (text ++ b ∷ [])) ≡ [] → NextPrints text b
-
--- the sent prints of segments of which the last one is told apart
-sent-last : (front : List (List ℕ)) (part : List ℕ) → flat_map sent_prints (front ++ part ∷ []) ≡ flat_map sent_prints front ++ sent_prints part
-sent-last front part = flat_map-append sent_prints front (part ∷ []) ∙ ap (λ prints. flat_map sent_prints front ++ prints) (append-nil (sent_prints part))
-
-sent_none : sent_prints [] ≡ []
-unfolding windows
-sent_none = refl
-
-next_prints_by : (text : List ℕ) (b : ℕ) (front : List (List ℕ)) (part : List ℕ) → begins_gap (text ++ b ∷ []) ≡ false
-    → segments text ≡ front ++ part ∷ [] → segments (text ++ b ∷ []) ≡ front ++ (part ++ data_gained (text ++ b ∷ [])) ∷ [] → NextPrints text b
-next_prints_by text b front part no_gap old new =
-    let last : last_segment text ≡ part = last_segment-append text front part old in
-    let sent : all_sent_prints text ≡ flat_map sent_prints front ++ sent_prints part = ap (flat_map sent_prints) old ∙ sent-last front part in
-    elim (known (ends_with_data (text ++ b ∷ []))) [
-      | inr none ↦
-          let gained : part ++ data_gained (text ++ b ∷ []) ≡ part = ap (λ c. part ++ cond c (last_byte (text ++ b ∷ []) ∷ []) []) none ∙ append-nil part in
-          let same : segments (text ++ b ∷ []) ≡ segments text = new ∙ ap (λ s. front ++ s ∷ []) gained ∙ sym old in
-          NoData no_gap none (ap (flat_map sent_prints) same) (ap (λ parts. option_map_or (λ segment. segment) (last_or None parts) []) same)
-      | inl some ↦
-          let gained : part ++ data_gained (text ++ b ∷ []) ≡ part ++ b ∷ [] =
-          ap (λ c. part ++ cond c (last_byte (text ++ b ∷ []) ∷ []) []) some ∙ ap (λ byte. part ++ byte ∷ []) (last_byte-append text b) in
-          let grown : segments (text ++ b ∷ []) ≡ front ++ (part ++ b ∷ []) ∷ [] = new ∙ ap (λ s. front ++ s ∷ []) gained in
-          let last_after : last_segment (text ++ b ∷ []) ≡ part ++ b ∷ [] = last_segment-append (text ++ b ∷ []) front (part ++ b ∷ []) grown in
-          let sent_after : all_sent_prints (text ++ b ∷ []) ≡ flat_map sent_prints front ++ sent_prints (part ++ b ∷ []) =
-          ap (flat_map sent_prints) grown ∙ sent-last front (part ++ b ∷ []) in
-          let rest : rest_of 8 (last_segment text) ≡ rest_of 8 part = ap (rest_of 8) last in
-          let same_long : length (rest_of 8 (last_segment text)) ≡ length (rest_of 8 part) = ap length rest in
-          let short : length (rest_of 8 part) < 8 = rest_is_short 8 part (omega arith) in
-          elim (eqb_tells (length (rest_of 8 part)) 7) [
-            | inl seven ↦
-                let found = groups-append_whole 8 part b (omega arith) (omega (arith, seven.1)) in
-                WholePrint no_gap some (same_long ∙ seven.1)
-                (sent_after
-                ∙ ap (λ groups. flat_map sent_prints front ++ map sent_print groups) found.0
-                ∙ ap (λ prints. flat_map sent_prints front ++ prints) (map-append sent_print (windows 8 8 part) ((rest_of 8 part ++ b ∷ []) ∷ []))
-                ∙ sym (append_assoc (flat_map sent_prints front) (sent_prints part) (sent_print (rest_of 8 part ++ b ∷ []) ∷ []))
-                ∙ sym (ap (λ prints. prints ++ sent_print (rest_of 8 (last_segment text) ++ b ∷ []) ∷ []) sent
-                ∙ ap (λ bytes. (flat_map sent_prints front ++ sent_prints part) ++ sent_print (bytes ++ b ∷ []) ∷ []) rest))
-                (ap (rest_of 8) last_after ∙ found.1)
-            | inr fewer ↦
-                let found = groups-append_part 8 part b (omega arith) (omega (arith, fewer.1, short)) in
-                PartOfPrint no_gap some (omega (arith, fewer.1, short, same_long))
-                (sent_after ∙ ap (λ groups. flat_map sent_prints front ++ map sent_print groups) found.0 ∙ sym sent)
-                (ap (rest_of 8) last_after ∙ found.1 ∙ ap (λ bytes. bytes ++ b ∷ []) (sym rest))
-          ]
-    ]
-
-pub next_prints : (text : List ℕ) (b : ℕ) → NextPrints text b
-next_prints text b = elim (next_segments text b) [
-  | NewSegment gap grown ↦ NoPrint gap
-      (ap (flat_map sent_prints) grown ∙ sent-last (segments text) [] ∙ ap (λ prints. all_sent_prints text ++ prints) sent_none ∙ append-nil (all_sent_prints text))
-      (last_segment-append (text ++ b ∷ []) (segments text) [] grown)
-  | SameSegment front part no_gap old new ↦ next_prints_by text b front part no_gap old new
-]
-
--- what the last byte completes of a list that grows with the text
-pub completed-append : {A : Type 0} (items : List ℕ → List A) (text : List ℕ) (b : ℕ)
-    → completed items (text ++ b ∷ []) ≡ drop (length (items text)) (items (text ++ b ∷ []))
-completed-append items text b =
-    let long : length (text ++ b ∷ []) ≡ length text + 1 = length-append text (b ∷ []) in
-    let before : length (text ++ b ∷ []) - 1 ≡ length text = omega (arith, long) in
-    ap (λ n. drop (length (items (take n (text ++ b ∷ [])))) (items (text ++ b ∷ []))) before
-    ∙ ap (λ t. drop (length (items t)) (items (text ++ b ∷ []))) (take-append_seam text (b ∷ []))
-
-pub completed-more : {A : Type 0} (items : List ℕ → List A) (text : List ℕ) (b : ℕ) (more : List A)
-    → items (text ++ b ∷ []) ≡ items text ++ more → completed items (text ++ b ∷ []) ≡ more
-completed-more items text b more grown =
-    completed-append items text b ∙ ap (drop (length (items text))) grown ∙ drop-append_seam (items text) more
-
-fences_are : (text : List ℕ) → fences text ≡ filter_map fence_of (packets station_grammar text)
-unfolding fences
-fences_are text = refl
-
--- a fence's last byte completes it, and no other byte completes one
-abbrev pub fence_in : ℕ → List ℕ → List Fence
-fence_in place bytes = if (slice_index bytes 0 == FENCE) && (length bytes == 7)
-    then record { asked = from_be_bytes w32 (drop 3 bytes); place = place } ∷ [] else []
-
-fence_if : (c : Bool) (fence : Fence) → cons_option (cond c (Some fence) None) [] ≡ cond c (fence ∷ []) []
-fence_if true fence = refl
-fence_if false fence = refl
-
-fences_in_packet : (place : ℕ) (bytes : List ℕ) → cons_option (fence_of (piece_at place bytes)) [] ≡ fence_in (place + 6) bytes
-fences_in_packet place bytes =
-    let fence : Fence = record { asked = from_be_bytes w32 (drop 3 bytes); place = place + 6 } in
-    fence_if ((slice_index bytes 0 == FENCE) && (length bytes == 7)) fence
-
-fences-last : (front : List Piece) (place : ℕ) (bytes : List ℕ)
-    → filter_map fence_of (front ++ piece_at place bytes ∷ []) ≡ filter_map fence_of front ++ fence_in (place + 6) bytes
-fences-last front place bytes =
-    filter_map-append fence_of front (piece_at place bytes ∷ []) ∙ ap (λ more. filter_map fence_of front ++ more) (fences_in_packet place bytes)
-
-never_fence : (c : Bool) (fs : List Fence) → cond (c && false) fs [] ≡ []
-never_fence true fs = refl
-never_fence false fs = refl
-
-no_fence : (place : ℕ) (bytes : List ℕ) → (length bytes == 7) ≡ false → fence_in place bytes ≡ []
-no_fence place bytes isnt =
-    ap (λ c. cond ((slice_index bytes 0 == FENCE) && c) (record { asked = from_be_bytes w32 (drop 3 bytes); place = place } ∷ []) []) isnt
-    ∙ never_fence (slice_index bytes 0 == FENCE) (record { asked = from_be_bytes w32 (drop 3 bytes); place = place } ∷ [])
-
-fences_go : (text : List ℕ) (b : ℕ) (front : List Piece) (place : ℕ) (bytes : List ℕ) → place + length bytes ≡ length text
-    → packets station_grammar text ≡ front ++ piece_at place bytes ∷ []
-    → packets station_grammar (text ++ b ∷ []) ≡ front ++ piece_at place (bytes ++ b ∷ []) ∷ []
-    → completed fences (text ++ b ∷ []) ≡ fence_in (length text) (bytes ++ b ∷ [])
-fences_go text b front place bytes ends old grown =
-    let longer : List ℕ = bytes ++ b ∷ [] in
-    let long : length (bytes ++ b ∷ []) ≡ length bytes + 1 = length-append bytes (b ∷ []) in
-    let before : fences text ≡ filter_map fence_of front ++ fence_in (place + 6) bytes =
-    fences_are text ∙ ap (filter_map fence_of) old ∙ fences-last front place bytes in
-    let after : fences (text ++ b ∷ []) ≡ filter_map fence_of front ++ fence_in (place + 6) longer =
-    fences_are (text ++ b ∷ []) ∙ ap (filter_map fence_of) grown ∙ fences-last front place longer in
-    elim (eqb_tells (length (bytes ++ b ∷ [])) 7) [
-      | inl seven ↦
-          let six : (length bytes == 7) ≡ false = elim (eqb_tells (length bytes) 7) [ inl is ↦ absurd (omega (arith, is.1, seven.1, long)) | inr isnt ↦ isnt.0 ] in
-          let there : place + 6 ≡ length text = omega (arith, ends, seven.1, long) in
-          let first : fences text ≡ filter_map fence_of front =
-          before ∙ ap (λ more. filter_map fence_of front ++ more) (no_fence (place + 6) bytes six) ∙ append-nil (filter_map fence_of front) in
-          completed-more fences text b (fence_in (length text) longer)
-          (after ∙ ap (λ p. filter_map fence_of front ++ fence_in p longer) there ∙ sym (ap (λ fs. fs ++ fence_in (length text) longer) first))
-      | inr other ↦
-          let none : fences (text ++ b ∷ []) ≡ filter_map fence_of front =
-          after ∙ ap (λ more. filter_map fence_of front ++ more) (no_fence (place + 6) longer other.0) ∙ append-nil (filter_map fence_of front) in
-          let enough : length (fences text) ≡ length (filter_map fence_of front) + length (fence_in (place + 6) bytes) =
-          ap length before ∙ length-append (filter_map fence_of front) (fence_in (place + 6) bytes) in
-          completed-append fences text b ∙ ap (drop (length (fences text))) none
-          ∙ drop_all (length (fences text)) (filter_map fence_of front) (omega (arith, enough))
-          ∙ sym (no_fence (length text) longer other.0)
-    ]
-
-pub fences_completed : (text : List ℕ) (b : ℕ) → completed fences (text ++ b ∷ []) ≡ fence_in (length text) (last_packet (text ++ b ∷ []))
-fences_completed text b = elim (leb_tells 6 (length text)) [
-  | inr early ↦
-      let long : length (text ++ b ∷ []) ≡ length text + 1 = length-append text (b ∷ []) in
-      let none : packets station_grammar (text ++ b ∷ []) ≡ [] = packets_short (text ++ b ∷ []) (omega (arith, long, early.1)) in
-      completed-append fences text b ∙ ap (drop (length (fences text))) (fences_are (text ++ b ∷ []) ∙ ap (filter_map fence_of) none)
-      ∙ drop-nil (length (fences text)) ∙ sym (ap (λ bytes. fence_in (length text) (last_bytes bytes)) none)
-  | inl late ↦ elim (next_packet text b late.1) [
-      | Begins begins grown ↦
-          completed-more fences text b []
-          (fences_are (text ++ b ∷ []) ∙ ap (filter_map fence_of) grown ∙ fences-last (packets station_grammar text) (length text) (b ∷ [])
-          ∙ ap (λ more. filter_map fence_of (packets station_grammar text) ++ more) (no_fence (length text + 6) (b ∷ []) refl)
-          ∙ ap (λ fs. fs ++ []) (sym (fences_are text)))
-          ∙ sym (ap (fence_in (length text)) (ap last_bytes grown ∙ last_bytes-append (packets station_grammar text) (piece_at (length text) (b ∷ []))) ∙ no_fence (length text) (b ∷ []) refl)
-      | Goes front last goes old grown is ↦
-          fences_go text b front last.place last.bytes is.ends old grown
-          ∙ sym (ap (fence_in (length text)) (ap last_bytes grown ∙ last_bytes-append front (piece_at last.place (last.bytes ++ b ∷ []))))
-    ]
+    | Begins begins grown ↦ next_segments_begin text b (length text) grown
+    | Goes front last goes old grown is ↦ next_segments_go text b front last.place last.bytes is.some old grown
+  ]
 ]
 
 -- behind the hello a packet may begin where there is none, or the last one is whole

@@ -1,5 +1,5 @@
 -- The fault of a text with one more byte, and the bytes before it.
-use Rattle.std.proofs.Common.{◌≡◌, ◌⊎◌, ℕ, ◌+◌, ◌<◌, ◌≤◌, List, [], ◌∷◌, ◌++◌, length, take, refl, sym, ◌∙◌, ap, subst, arith, length-append, append_assoc, append-nil, Option, Some, None, option_map, inl, inr}
+use Rattle.std.proofs.Common.{◌≡◌, ◌⊎◌, ℕ, ◌+◌, ◌<◌, List, [], ◌∷◌, ◌++◌, length, take, refl, sym, ◌∙◌, ap, subst, arith, length-append, append_assoc, append-nil, Option, Some, None, option_map, inl, inr}
 use Rattle.std.proofs.lemmas.List.{take-append-le}
 use Rattle.std.proofs.Math.Seq.{take-append_seam}
 use Rattle.std.specs.Option.{option_or, option_map_or}
@@ -57,6 +57,17 @@ module _ {F : Type 0} (met : List ℕ → Option F) where
       ∙ ap (λ o. option_or o (option_map (λ fault. (length text, fault)) (met (text ++ byte ∷ [])))) (no_fault (first_met met text) none)
       ∙ ap (option_map (λ fault. (length text, fault))) fine)
 
+  both_none : (o : Option (ℕ × F)) (place : ℕ) (fault : Option F) → option_or o (option_map (λ f. (place, f)) fault) ≡ None → (o ≡ None) × (fault ≡ None)
+  both_none (Some m) place fault is = absurd (cc)
+  both_none None place (Some f) is = absurd (cc)
+  both_none None place None is = (refl, refl)
+
+  -- where there is no fault, there was none before the last byte, and it meets none
+  pub fault_of-before : (text : List ℕ) (byte : ℕ) → fault_of met (text ++ byte ∷ []) ≡ None → (fault_of met text ≡ None) × (met (text ++ byte ∷ []) ≡ None)
+  fault_of-before text byte none =
+      let parts = both_none (first_met met text) (length text) (met (text ++ byte ∷ [])) (sym (first_met-append met text byte) ∙ no_fault (first_met met (text ++ byte ∷ [])) none) in
+      (ap (option_map (λ m. m.1)) parts.0, parts.1)
+
   -- no fault yet, and the byte meets one
   pub fault_of-some : (text : List ℕ) (byte : ℕ) (fault : F) → fault_of met text ≡ None → met (text ++ byte ∷ []) ≡ Some fault
       → (fault_of met (text ++ byte ∷ []) ≡ Some fault) × (seen_of met (text ++ byte ∷ []) ≡ text)
@@ -64,9 +75,10 @@ module _ {F : Type 0} (met : List ℕ → Option F) where
       let first : first_met met (text ++ byte ∷ []) ≡ Some (length text, fault) =
       first_met-append met text byte
       ∙ ap (λ o. option_or o (option_map (λ f. (length text, f)) (met (text ++ byte ∷ [])))) (no_fault (first_met met text) none)
-      ∙ ap (option_map (λ f. (length text, f))) wrong in
-      (ap (option_map (λ m. m.1)) first,
-       ap (λ o. option_map_or (λ m. take m.0 (text ++ byte ∷ [])) o (text ++ byte ∷ [])) first ∙ take-append_seam text (byte ∷ []))
+      ∙ ap (option_map (λ f. (length text, f))) wrong in (
+        ap (option_map (λ m. m.1)) first,
+        ap (λ o. option_map_or (λ m. take m.0 (text ++ byte ∷ [])) o (text ++ byte ∷ [])) first ∙ take-append_seam text (byte ∷ []),
+      )
 
   -- a fault stays, and so do the bytes before it
   pub fault_of-stays : (text : List ℕ) (byte : ℕ) (fault : F) → fault_of met text ≡ Some fault
@@ -75,8 +87,9 @@ module _ {F : Type 0} (met : List ℕ → Option F) where
       let found = a_fault (first_met met text) fault is in
       let inside : found.0.0 < length text = first_met-inside text found.0 found.1 in
       let first : first_met met (text ++ byte ∷ []) ≡ Some found.0 =
-      first_met-append met text byte ∙ ap (λ o. option_or o (option_map (λ f. (length text, f)) (met (text ++ byte ∷ [])))) found.1 in
-      (ap (option_map (λ m. m.1)) first ∙ ap (λ f. Some f) found.2,
-       ap (λ o. option_map_or (λ m. take m.0 (text ++ byte ∷ [])) o (text ++ byte ∷ [])) first
-       ∙ take-append-le found.0.0 text (byte ∷ []) (omega (arith, inside))
-       ∙ sym (ap (λ o. option_map_or (λ m. take m.0 text) o text) found.1))
+      first_met-append met text byte ∙ ap (λ o. option_or o (option_map (λ f. (length text, f)) (met (text ++ byte ∷ [])))) found.1 in (
+        ap (option_map (λ m. m.1)) first ∙ ap (λ f. Some f) found.2,
+        ap (λ o. option_map_or (λ m. take m.0 (text ++ byte ∷ [])) o (text ++ byte ∷ [])) first
+            ∙ take-append-le found.0.0 text (byte ∷ []) (omega (arith, inside))
+            ∙ sym (ap (λ o. option_map_or (λ m. take m.0 text) o text) found.1),
+      )

@@ -1,10 +1,8 @@
 -- What a byte behind the hello brings, for each part of a packet.
-use Rattle.std.proofs.Common.{◌≡◌, ℕ, zero, suc, ◌+◌, ◌-◌, ◌<◌, ◌≤◌, List, [], ◌∷◌, ◌++◌, length, take, drop, map, flat_map, subst, refl, sym, ◌∙◌, ap, arith, length-append, Bool, true, false, inl, inr, Option, None, Some, cond, slice_index}
-use Rattle.std.proofs.lemmas.List.{append-nil, take_all, get_or_append_left}
-use Rattle.std.proofs.lemmas.Bool.{lt-ltb, le-ltb, eq-eqb}
-use Rattle.std.proofs.lemmas.Bool.Decides.{eqb_tells}
-use Rattle.std.proofs.Math.Bool.{and-false, and-true}
-use Rattle.std.specs.Prelude.{◌&&◌, ◌||◌, ◌==◌, nat_lt, not, slice_index_or, count_ones, Ok, Err, Result, if◌then◌else◌, ◌^◌}
+use Rattle.std.proofs.Common.{◌≡◌, ℕ, ◌+◌, ◌-◌, ◌<◌, ◌≤◌, List, [], ◌∷◌, ◌++◌, length, take, drop, subst, refl, sym, ◌∙◌, ap, arith, length-append, Bool, true, false, inl, inr, None, Some, cond, slice_index}
+use Rattle.std.proofs.lemmas.List.{take_all}
+use Rattle.std.proofs.lemmas.Bool.{lt-ltb, le-ltb}
+use Rattle.std.specs.Prelude.{◌&&◌, ◌||◌, nat_lt, count_ones, Ok, Err, Result, if◌then◌else◌, ◌^◌}
 use Rattle.std.specs.Option.{option_or}
 use Rattle.std.specs.Int.{w32, from_be_bytes}
 use Rattle.std.specs.List.{list_any}
@@ -15,9 +13,11 @@ use Rattle.hk_spec_sound.specs.Groups.{rest_of}
 use Rattle.hk_spec_sound.proofs.GrowingGroups.{rest_is_short}
 use Rattle.hk_spec_streams.specs.Pieces.{completed}
 use Rattle.hk_spec_streams.proofs.GrowingPackets.{known}
-use Rattle.hk_spec_streams.specs.Station.{DATA, FENCE, GAP, station_met, fences, Fence, sent_print, has_bad_mask, channels_of, factor_of}
-use Rattle.hk_spec_streams.specs.LastPacket.{last_packet, last_byte, last_segment, all_sent_prints, begins_gap, ends_gap, ends_with_data, form_of}
-use Rattle.hk_spec_streams.proofs.GrowingSegments.{last_packet-next, last_packet-le, next_prints, NextPrints, NoPrint, NoData, PartOfPrint, WholePrint, completed-more, fences_completed, fence_in, last_byte-append}
+use Rattle.hk_spec_streams.specs.Station.{station_met, sent_print, has_bad_mask, channels_of}
+use Rattle.hk_spec_streams.specs.LastPacket.{last_packet, last_segment, all_sent_prints, begins_gap, ends_with_data}
+use Rattle.hk_spec_streams.proofs.GrowingSegments.{last_packet-next, last_packet-le}
+use Rattle.hk_spec_streams.proofs.GrowingPrints.{next_prints, NoPrint, NoData, PartOfPrint, WholePrint}
+use Rattle.hk_spec_streams.proofs.Completed.{completed-more}
 use Rattle.hk_station_wire.specs.declared.item.Item.{Item}
 use Rattle.hk_station_wire.specs.declared.item.Item.TheVariants as item
 use Rattle.hk_station_wire.specs.declared.packet.LengthSize.{LengthSize}
@@ -27,12 +27,12 @@ use Rattle.hk_station_wire.specs.declared.reader.Part.{Part}
 use Rattle.hk_station_wire.specs.declared.reader.Part.TheVariants.{Data, FenceEnd, GapBegin, GapEnd, Other}
 use Rattle.hk_station_wire.specs.declared.reader.Reader.{Reader}
 use Rattle.hk_station_wire.specs.Held.{IsLast, gathered, length_in, length_size, is_over}
-use Rattle.hk_station_wire.specs.Items.{item_of, one_if, carries_prints}
+use Rattle.hk_station_wire.specs.Items.{carries_prints}
 use Rattle.hk_station_wire.specs.Steps.{head_fault, part_of, left_of_print, print_outcome}
 use Rattle.hk_station_wire.specs.Taken.{StandsAfter, HasByte, Brings, unfinished_print}
 use Rattle.hk_station_wire.proofs.MeetsFault.{met_packet, bad_print, sends_nothing, no_print, no_bad_print, true_isnt_false}
-use Rattle.hk_station_wire.proofs.Parts.{Tests, Says, says}
-use Rattle.hk_station_wire.proofs.Brought.{first_item, item_by, either_way, same_channels, same_factor}
+use Rattle.hk_station_wire.proofs.Parts.{Says, says}
+use Rattle.hk_station_wire.proofs.LastItems.{carries_as_before, quiet_unfinished, other_item, gap_begin_item, gap_end_item, fence_item, sound_item, prints_item, same_channels, same_factor}
 
 none_passes : (prints : List Print) → list_any (λ print. false && nat_lt 10 (count_ones print.mask)) prints ≡ false
 none_passes [] = refl
@@ -89,48 +89,16 @@ module _ (limit : ℕ) (text : List ℕ) (b : ℕ) (reader : Reader) (place coun
         group = group;
       }
 
-  carries_as_before : carries_prints (text ++ b ∷ []) ≡ carries_prints text
-  carries_as_before =
+  behind : 6 ≤ length text
+  behind =
       let at : place ≡ length text = look.at in
       let late : 6 ≤ place = look.late in
-      ap (λ n. n == 0) (same_channels text b (omega arith))
+      omega arith
 
-  not_hello : (length (text ++ b ∷ []) == 6) ≡ false
-  not_hello =
-      let at : place ≡ length text = look.at in
-      let late : 6 ≤ place = look.late in
-      let long : length (text ++ b ∷ []) ≡ length text + 1 = length-append text (b ∷ []) in
-      elim (eqb_tells (length (text ++ b ∷ [])) 6) [ inl six ↦ absurd (omega (arith, six.1, long)) | inr isnt ↦ isnt.0 ]
-
-  -- a byte that is no data: the unfinished print ends at a gap, and else stays
-  quiet_unfinished : ends_with_data (text ++ b ∷ []) ≡ false → unfinished_print (text ++ b ∷ []) ≡ cond (begins_gap (text ++ b ∷ [])) [] (unfinished_print text)
-  quiet_unfinished none =
-      let t : List ℕ = text ++ b ∷ [] in
-      elim (next_prints text b) [
-        | NoPrint gap same last ↦
-            ap (λ segment. cond (carries_prints t) (rest_of 8 segment) []) last ∙ either_way (carries_prints t) []
-            ∙ sym (ap (λ c. cond c [] (unfinished_print text)) gap)
-        | NoData no_gap no_data same last ↦
-            ap (λ segment. cond (carries_prints t) (rest_of 8 segment) []) last
-            ∙ ap (λ c. cond c (rest_of 8 (last_segment text)) []) carries_as_before
-            ∙ sym (ap (λ c. cond c [] (unfinished_print text)) no_gap)
-        | PartOfPrint no_gap data_byte short same rest ↦ absurd (true_isnt_false (sym data_byte ∙ none))
-        | WholePrint no_gap data_byte full grown rest ↦ absurd (true_isnt_false (sym data_byte ∙ none))
-      ]
-
-  -- what a byte brings that is no data
-  quiet_item : (fence_end gap_end : Bool) → ends_with_data (text ++ b ∷ []) ≡ false
-      → ((slice_index (last_packet (text ++ b ∷ [])) 0 == FENCE) && (length (last_packet (text ++ b ∷ [])) == 7)) ≡ fence_end → ends_gap (text ++ b ∷ []) ≡ gap_end
-      → item_of (text ++ b ∷ []) ≡ first_item false false []
-      (cond fence_end (record { asked = from_be_bytes w32 (drop 3 (last_packet (text ++ b ∷ []))); place = length text } ∷ []) []) gap_end
-      (form_of (text ++ b ∷ [])) (last_byte (text ++ b ∷ []))
-  quiet_item fence_end gap_end none fence gap =
-      let t : List ℕ = text ++ b ∷ [] in
-      item_by t false false [] (cond fence_end (record { asked = from_be_bytes w32 (drop 3 (last_packet t)); place = length text } ∷ []) []) gap_end not_hello
-      (ap (λ c. not (carries_prints t) && c) none ∙ and-false (not (carries_prints t)))
-      (ap (λ ps. cond (carries_prints t) ps []) (no_print text b (sends_nothing text b none)) ∙ either_way (carries_prints t) [])
-      (fences_completed text b ∙ ap (λ c. cond c (record { asked = from_be_bytes w32 (drop 3 (last_packet t)); place = length text } ∷ []) []) fence)
-      gap
+  -- the unfinished print, as a byte that is no data leaves it
+  quiet_group : (gap : Bool) → ends_with_data (text ++ b ∷ []) ≡ false → begins_gap (text ++ b ∷ []) ≡ gap → unfinished_print (text ++ b ∷ []) ≡ cond gap [] (gathered reader.group)
+  quiet_group gap none is =
+      quiet_unfinished text b behind none ∙ ap (λ c. cond c [] (unfinished_print text)) is ∙ ap (cond gap []) (sym look.has.group)
 
   quiet_met : head_fault place count kind packet_length ≡ None → ends_with_data (text ++ b ∷ []) ≡ false → station_met limit (text ++ b ∷ []) ≡ None
   quiet_met fine none = met_by fine ∙ ap (λ c. cond c (Some (BadMask place)) None) (no_bad_print text b (sends_nothing text b none))
@@ -140,9 +108,9 @@ module _ (limit : ℕ) (text : List ℕ) (b : ℕ) (reader : Reader) (place coun
   brings_other new fine is same_form same_packet same_group =
       let by = tests Other is in (
         quiet_met fine by.data_test,
-        sym (quiet_item false false by.data_test by.fence_test by.end_test),
+        sym (other_item text b behind by),
         stands new same_form same_packet
-            (ap gathered same_group ∙ look.has.group ∙ sym (quiet_unfinished by.data_test ∙ ap (λ c. cond c [] (unfinished_print text)) by.begin_test)),
+            (ap gathered same_group ∙ sym (quiet_group false by.data_test by.begin_test)),
       )
 
   pub brings_gap_end : (new : Reader) → head_fault place count kind packet_length ≡ None → part_of kind count ≡ GapEnd
@@ -150,9 +118,9 @@ module _ (limit : ℕ) (text : List ℕ) (b : ℕ) (reader : Reader) (place coun
   brings_gap_end new fine is same_form same_packet same_group =
       let by = tests GapEnd is in (
         quiet_met fine by.data_test,
-        sym (quiet_item false true by.data_test by.fence_test by.end_test),
+        sym (gap_end_item text b behind by),
         stands new same_form same_packet
-            (ap gathered same_group ∙ look.has.group ∙ sym (quiet_unfinished by.data_test ∙ ap (λ c. cond c [] (unfinished_print text)) by.begin_test)),
+            (ap gathered same_group ∙ sym (quiet_group false by.data_test by.begin_test)),
       )
 
   pub brings_gap_begin : (new : Reader) → head_fault place count kind packet_length ≡ None → part_of kind count ≡ GapBegin
@@ -160,8 +128,8 @@ module _ (limit : ℕ) (text : List ℕ) (b : ℕ) (reader : Reader) (place coun
   brings_gap_begin new fine is same_form same_packet empty =
       let by = tests GapBegin is in (
         quiet_met fine by.data_test,
-        sym (quiet_item false false by.data_test by.fence_test by.end_test),
-        stands new same_form same_packet (empty ∙ sym (quiet_unfinished by.data_test ∙ ap (λ c. cond c [] (unfinished_print text)) by.begin_test)),
+        sym (gap_begin_item text b behind by),
+        stands new same_form same_packet (empty ∙ sym (quiet_group true by.data_test by.begin_test)),
       )
 
   pub brings_fence : (new : Reader) (asked : ℕ) → head_fault place count kind packet_length ≡ None → part_of kind count ≡ FenceEnd
@@ -170,20 +138,10 @@ module _ (limit : ℕ) (text : List ℕ) (b : ℕ) (reader : Reader) (place coun
   brings_fence new asked fine is asks same_form same_packet same_group =
       let by = tests FenceEnd is in (
         quiet_met fine by.data_test,
-        ap item.Fence asks ∙ sym (quiet_item true false by.data_test by.fence_test by.end_test),
+        ap item.Fence asks ∙ sym (fence_item text b behind by),
         stands new same_form same_packet
-            (ap gathered same_group ∙ look.has.group ∙ sym (quiet_unfinished by.data_test ∙ ap (λ c. cond c [] (unfinished_print text)) by.begin_test)),
+            (ap gathered same_group ∙ sym (quiet_group false by.data_test by.begin_test)),
       )
-
-  data_row : part_of kind count ≡ Data → (not (carries_prints (text ++ b ∷ [])) && ends_with_data (text ++ b ∷ [])) ≡ not (carries_prints text)
-  data_row is =
-      let by = tests Data is in
-      ap (λ c. not (carries_prints (text ++ b ∷ [])) && c) by.data_test ∙ and-true (not (carries_prints (text ++ b ∷ []))) ∙ ap not carries_as_before
-
-  no_fence_there : part_of kind count ≡ Data → completed fences (text ++ b ∷ []) ≡ []
-  no_fence_there is =
-      let by = tests Data is in
-      fences_completed text b ∙ ap (λ c. cond c (record { asked = from_be_bytes w32 (drop 3 (last_packet (text ++ b ∷ []))); place = length text } ∷ []) []) by.fence_test
 
   -- a byte of sound
   pub brings_sound : (new : Reader) → head_fault place count kind packet_length ≡ None → part_of kind count ≡ Data → carries_prints text ≡ false
@@ -191,12 +149,11 @@ module _ (limit : ℕ) (text : List ℕ) (b : ℕ) (reader : Reader) (place coun
   brings_sound new fine is sound same_form same_packet same_group =
       let t : List ℕ = text ++ b ∷ [] in
       let by = tests Data is in
-      let carries : carries_prints (text ++ b ∷ []) ≡ false = carries_as_before ∙ sound in
+      let carries : carries_prints (text ++ b ∷ []) ≡ false = carries_as_before text b behind ∙ sound in
       let good : bad_print (text ++ b ∷ []) ≡ false =
       ap (λ c. list_any (λ print. c && nat_lt 10 (count_ones print.mask)) (completed all_sent_prints t)) carries ∙ none_passes (completed all_sent_prints t) in (
         met_by fine ∙ ap (λ c. cond c (Some (BadMask place)) None) good,
-        sym (item_by t false true [] [] false not_hello (data_row is ∙ ap not sound)
-            (ap (λ c. cond c (completed all_sent_prints t) []) carries) (no_fence_there is) by.end_test ∙ ap item.Byte (last_byte-append text b)),
+        sym (sound_item text b behind by sound),
         stands new same_form same_packet
             (ap gathered same_group ∙ look.has.group ∙ ap (λ c. cond c (rest_of 8 (last_segment text)) []) sound
             ∙ sym (ap (λ c. cond c (rest_of 8 (last_segment t)) []) carries)),
@@ -215,15 +172,7 @@ module _ (limit : ℕ) (text : List ℕ) (b : ℕ) (reader : Reader) (place coun
         ap (λ bytes. take 12 (bytes ++ b ∷ [])) group ∙ take_all 12 (rest ++ b ∷ []) (omega (arith, short, long))
 
     unfinished : unfinished_print (text ++ b ∷ []) ≡ rest_of 8 (last_segment (text ++ b ∷ []))
-    unfinished = ap (λ c. cond c (rest_of 8 (last_segment (text ++ b ∷ []))) []) (carries_as_before ∙ carries)
-
-    print_item : (prints : List Print) → completed all_sent_prints (text ++ b ∷ []) ≡ prints
-        → item_of (text ++ b ∷ []) ≡ first_item false false prints [] false (form_of (text ++ b ∷ [])) (last_byte (text ++ b ∷ []))
-    print_item prints are =
-        let t : List ℕ = text ++ b ∷ [] in
-        let by = tests Data is in
-        item_by t false false prints [] false not_hello (data_row is ∙ ap not carries)
-        (ap (λ c. cond c (completed all_sent_prints t) []) (carries_as_before ∙ carries) ∙ are) (no_fence_there is) by.end_test
+    unfinished = ap (λ c. cond c (rest_of 8 (last_segment (text ++ b ∷ []))) []) (carries_as_before text b behind ∙ carries)
 
     part_brings : length (rest_of 8 (last_segment text)) < 7 → all_sent_prints (text ++ b ∷ []) ≡ all_sent_prints text
         → rest_of 8 (last_segment (text ++ b ∷ [])) ≡ rest_of 8 (last_segment text) ++ b ∷ []
@@ -239,7 +188,7 @@ module _ (limit : ℕ) (text : List ℕ) (b : ℕ) (reader : Reader) (place coun
         let P : Result Item WireFault → Type 0 = λ r. Brings r new limit t in
         subst P (sym outcome) (
           met_by fine ∙ ap (λ c. cond c (Some (BadMask place)) None) (no_bad_print text b same),
-          sym (print_item [] (no_print text b same)),
+          sym (prints_item text b behind (tests Data is) carries [] (no_print text b same)),
           stands new same_form same_packet
               (left ∙ ap left_of_print held ∙ ap (λ c. cond c bytes []) few ∙ sym (unfinished ∙ rest_after)),
         )
@@ -260,14 +209,14 @@ module _ (limit : ℕ) (text : List ℕ) (b : ℕ) (reader : Reader) (place coun
         ap (print_outcome place) held ∙ ap (λ c. cond c (Ok item.Nothing) (judge weak)) enough in
         let sent : completed all_sent_prints t ≡ print ∷ [] = completed-more all_sent_prints text b (print ∷ []) grown in
         let bad : bad_print t ≡ (weak || false) =
-        ap (list_any (has_bad_mask (channels_of t))) sent ∙ ap (λ c. (c && weak) || false) (carries_as_before ∙ carries) in
+        ap (list_any (has_bad_mask (channels_of t))) sent ∙ ap (λ c. (c && weak) || false) (carries_as_before text b behind ∙ carries) in
         let P : Result Item WireFault → Type 0 = λ r. Brings r new limit t in
         elim (known weak) [
           | inl many ↦ subst P (sym (outcome ∙ ap judge many))
               (met_by fine ∙ ap (λ c. cond c (Some (BadMask place)) None) (bad ∙ ap (λ c. c || false) many))
           | inr few ↦ subst P (sym (outcome ∙ ap judge few)) (
             met_by fine ∙ ap (λ c. cond c (Some (BadMask place)) None) (bad ∙ ap (λ c. c || false) few),
-            sym (print_item (print ∷ []) sent),
+            sym (prints_item text b behind (tests Data is) carries (print ∷ []) sent),
             stands new same_form same_packet
                 (left ∙ ap left_of_print held ∙ ap (λ c. cond c bytes []) enough ∙ sym (unfinished ∙ rest_after)),
           )

@@ -1,5 +1,10 @@
 pub mod MeetsFault
 pub mod Parts
-pub mod Brought
+pub mod LastItems
+pub mod InHello
 pub mod Behind
+pub mod StillKept
 pub mod Push
+pub mod WellFormed
+pub mod OpenGap
+pub mod ItemLaws

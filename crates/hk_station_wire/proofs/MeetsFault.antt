@@ -1,24 +1,24 @@
 -- What a byte meets: in the hello by its place, and behind it by the packet that it belongs to.
-use Rattle.std.proofs.Common.{◌≡◌, ℕ, ◌+◌, ◌-◌, ◌<◌, ◌≤◌, List, [], ◌∷◌, ◌++◌, length, take, drop, flat_map, refl, sym, ◌∙◌, ap, arith, length-append, Bool, true, false, inl, inr, Option, None, Some, cond, slice_index}
+use Rattle.std.proofs.Common.{◌≡◌, ℕ, ◌+◌, ◌-◌, ◌<◌, ◌≤◌, List, [], ◌∷◌, ◌++◌, length, take, drop, refl, sym, ◌∙◌, ap, arith, length-append, Bool, true, false, inl, inr, Option, None, Some, cond, slice_index}
 use Rattle.std.proofs.lemmas.List.{append-nil}
 use Rattle.std.proofs.lemmas.Bool.{lt-ltb, le-ltb}
-use Rattle.std.proofs.lemmas.Bool.Decides.{eqb_tells}
-use Rattle.std.proofs.Math.Seq.{take-append_seam, drop-nil, get_or-append_seam}
-use Rattle.std.specs.Prelude.{◌&&◌, ◌||◌, ◌==◌, nat_lt, not, slice_index_or, count_ones}
+use Rattle.std.proofs.lemmas.Bool.Decides.{leb_tells}
+use Rattle.std.proofs.Math.Seq.{take-append_seam, get_or-append_seam}
+use Rattle.std.specs.Prelude.{◌&&◌, ◌==◌, nat_lt, not, slice_index_or}
 use Rattle.std.specs.Option.{option_or}
-use Rattle.std.specs.Int.{w16, w32, from_be_bytes}
+use Rattle.std.specs.Int.{w16, from_be_bytes}
 use Rattle.std.specs.List.{list_any}
-use Rattle.hk_base.specs.declared.plain.Print.{Print}
 use Rattle.hk_base.specs.declared.plain.WireFault.{WireFault}
 use Rattle.hk_base.specs.declared.plain.WireFault.TheVariants.{BadHello, BadKind, BadLength, BadMask, TooLong}
 use Rattle.hk_spec_streams.specs.Pieces.{first_that_holds, is_one_of, last_bytes, completed}
-use Rattle.hk_spec_streams.specs.Grammar.{packets}
-use Rattle.hk_spec_streams.specs.Station.{DATA, station_grammar, station_met, station_hello, station_length_fits, has_bad_mask, channels_of}
+use Rattle.hk_spec_streams.specs.Station.{DATA, station_met, station_hello, station_length_fits, has_bad_mask, channels_of}
 use Rattle.hk_spec_streams.specs.LastPacket.{last_packet, all_sent_prints, ends_with_data}
-use Rattle.hk_spec_streams.proofs.GrowingSegments.{packets_short, completed-append, completed-more, next_prints, NextPrints, NoPrint, NoData, PartOfPrint, WholePrint}
+use Rattle.hk_spec_streams.proofs.GrowingSegments.{packets_short}
+use Rattle.hk_spec_streams.proofs.Completed.{completed-more}
+use Rattle.hk_spec_streams.proofs.GrowingPrints.{next_prints, NoPrint, NoData, PartOfPrint, WholePrint}
 use Rattle.hk_station_wire.specs.declared.packet.LengthSize.TheVariants.{Two}
 use Rattle.hk_station_wire.specs.Held.{length_in}
-use Rattle.hk_station_wire.specs.Steps.{hello_allows, hello_rows, is_kind, head_fault}
+use Rattle.hk_station_wire.specs.Steps.{hello_allows, is_kind, head_fault}
 
 -- the five tests, and what stands beside each
 abbrev rows : Bool → Bool → Bool → Bool → Bool → ℕ → ℕ → Option WireFault
@@ -78,6 +78,22 @@ met_limit text b =
     ((length (last_packet (text ++ b ∷ [])) == 3)
     && not (station_length_fits (slice_index (last_packet (text ++ b ∷ [])) 0) (from_be_bytes w16 (drop 1 (last_packet (text ++ b ∷ []))))))
     (bad_print (text ++ b ∷ [])) (length text) (length text)) (lt-ltb (length text) (length text + 1) (omega arith))
+
+over_limit : (b c d e : Bool) (limit place : ℕ) → rows true b c d e limit place ≡ None → ⊥
+over_limit b c d e limit place is = cc
+
+-- where a byte meets nothing, there was room for it
+pub met_room : (limit : ℕ) (text : List ℕ) (b : ℕ) → station_met limit (text ++ b ∷ []) ≡ None → length text < limit
+met_room limit text b fine = elim (leb_tells (length text + 1) limit) [
+  | inl room ↦ omega (arith, room.1)
+  | inr full ↦
+      let bytes : List ℕ = last_packet (text ++ b ∷ []) in
+      let hello : Bool = nat_lt (length text) 6 && not (hello_allows (length text) (slice_index text 4) b) in
+      let kind : Bool = (length bytes == 1) && not (is_kind (slice_index bytes 0)) in
+      let fits : Bool = (length bytes == 3) && not (station_length_fits (slice_index bytes 0) (from_be_bytes w16 (drop 1 bytes))) in
+      absurd (over_limit hello kind fits (bad_print (text ++ b ∷ [])) limit (length text)
+      (sym (met_rows limit text b ∙ ap (λ a. rows a hello kind fits (bad_print (text ++ b ∷ [])) limit (length text)) (lt-ltb limit (length text + 1) full.1)) ∙ fine))
+]
 
 -- only a byte of data completes a print
 pub sends_nothing : (text : List ℕ) (b : ℕ) → ends_with_data (text ++ b ∷ []) ≡ false → all_sent_prints (text ++ b ∷ []) ≡ all_sent_prints text

@@ -1,5 +1,5 @@
 -- What the parts of a packet tell of its kind and of how many of its bytes came.
-use Rattle.std.proofs.Common.{◌≡◌, ℕ, ◌≢◌, refl, sym, subst, Bool, true, false, inl, inr, cond}
+use Rattle.std.proofs.Common.{◌≡◌, ℕ, refl, sym, subst, Bool, true, false, inl, inr, cond}
 use Rattle.std.proofs.Math.Bool.{and-false}
 use Rattle.std.proofs.lemmas.Bool.Decides.{eqb_tells}
 use Rattle.std.specs.Prelude.{◌&&◌, ◌==◌, nat_lt}

@@ -1,4 +1,6 @@
 pub mod Held
+pub mod Kept
 pub mod Items
+pub mod Says
 pub mod Steps
 pub mod Taken

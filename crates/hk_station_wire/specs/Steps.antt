@@ -1,5 +1,5 @@
 -- What one byte does where no fault was met, by the few values that are kept.
-use Rattle.std.specs.Prelude.{ℕ, ◌-◌, ◌==◌, Bool, true, false, not, ◌&&◌, if◌then◌else◌, nat_lt, count_ones, List, [], ◌∷◌, ◌++◌, map, length, take, slice_index, slice_index_or, codes, Option, Ok, Err, Result}
+use Rattle.std.specs.Prelude.{ℕ, ◌-◌, ◌==◌, Bool, not, ◌&&◌, if◌then◌else◌, nat_lt, count_ones, List, [], ◌∷◌, ◌++◌, map, length, slice_index_or, codes, Option, Ok, Err, Result}
 use Rattle.hk_base.specs.declared.plain.WireFault.{WireFault}
 use Rattle.hk_base.specs.declared.plain.WireFault.TheVariants.{BadKind, BadLength, BadMask}
 use Rattle.hk_station_wire.specs.declared.item.Item.{Item}

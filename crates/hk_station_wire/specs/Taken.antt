@@ -5,6 +5,7 @@ use Rattle.hk_station_wire.specs.declared.item.Item.{Item}
 use Rattle.hk_station_wire.specs.declared.reader.Reader.{Reader}
 use Rattle.hk_station_wire.specs.declared.wire.Wire.{Wire}
 use Rattle.hk_station_wire.specs.Held.{gathered, IsLast}
+use Rattle.hk_station_wire.specs.Kept.{Keeps}
 use Rattle.hk_station_wire.specs.Items.{item_of, carries_prints}
 use Rattle.hk_spec_sound.specs.Groups.{rest_of}
 use Rattle.hk_spec_streams.specs.Station.{channels_of, factor_of, station_met, station_fault, station_seen}
@@ -41,8 +42,7 @@ limit_of wire = wire.limit
 abbrev pub fault_met : Wire → Option WireFault
 fault_met wire = wire.fault
 
--- The wire has taken this text: it has met the text's fault, and where there is none it stands at the text's end.
+-- The wire has taken this text: it keeps the text's fault, and where there is none it stands at the text's end.
 pub record HasTaken (wire : Wire) (text : List ℕ) : Type 0 where
-  pub fault : wire.fault ≡ station_fault wire.limit text
-  pub taken : wire.taken ≡ length (station_seen wire.limit text)
+  pub keeps : Keeps (station_met wire.limit) wire.fault wire.taken text
   pub stands : wire.fault ≡ None → StandsAfter wire.reader text

@@ -17,3 +17,6 @@ pub use hk_base::{Form, Print, WireFault};
 pub use item::Item;
 pub use packet::{LastPacket, LengthSize};
 pub use wire::Wire;
+
+#[cfg(test)]
+mod tests;

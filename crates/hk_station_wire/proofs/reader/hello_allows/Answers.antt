@@ -1,4 +1,4 @@
-use Rattle.std.proofs.Common.{◌≡◌, ◌∙◌, ap, sym, arith}
+use Rattle.std.proofs.Common.{◌≡◌, ◌∙◌, ap, arith}
 use Rattle.hk_station_wire.specs.Steps.{hello_allows}
 use Rattle.hk_station_wire.proofs.reader.hello_allows.Goals as goal
 

@@ -1,4 +1,4 @@
-use Rattle.std.proofs.Common.{◌≡◌, ℕ, ◌∙◌, ◌+◌, ◌≤◌, ◌<◌, ◌++◌, ◌∷◌, [], ap, sym, refl, arith, length}
+use Rattle.std.proofs.Common.{refl, arith}
 use Rattle.hk_station_wire.proofs.reader.Reader.take.Goals as goal
 use Rattle.hk_station_wire.proofs.Behind.{has_byte}
 

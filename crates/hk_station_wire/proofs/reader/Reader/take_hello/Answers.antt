@@ -1,16 +1,10 @@
-use Rattle.std.proofs.Common.{◌≡◌, ℕ, ◌∙◌, ◌+◌, ◌<◌, ◌++◌, ◌∷◌, [], ap, sym, refl, arith, length, true, false, Bool, cond, Some}
-use Rattle.std.specs.Prelude.{◌==◌}
-use Rattle.std.proofs.lemmas.Bool.{eq-eqb}
-use Rattle.std.proofs.lemmas.Bool.Decides.{eqb_tells}
-use Rattle.hk_base.specs.declared.plain.WireFault.{WireFault}
+use Rattle.std.proofs.Common.{◌≡◌, ◌∙◌, ◌++◌, ◌∷◌, [], ap, sym, refl, arith, length, true, Some}
 use Rattle.hk_base.specs.declared.plain.WireFault.TheVariants.{BadHello}
-use Rattle.hk_base.specs.declared.plain.Form.{Form}
 use Rattle.hk_spec_streams.specs.Station.{channels_of, factor_of}
-use Rattle.hk_station_wire.specs.declared.item.Item.{Item}
-use Rattle.hk_station_wire.specs.declared.item.Item.TheVariants.{Hello, Nothing}
 use Rattle.hk_station_wire.specs.Steps.{hello_allows}
 use Rattle.hk_station_wire.proofs.reader.Reader.take_hello.Goals as goal
-use Rattle.hk_station_wire.proofs.Brought.{hello_brings, hello_meets, same_channels, here, not_five, form_is}
+use Rattle.hk_station_wire.proofs.LastItems.{same_channels}
+use Rattle.hk_station_wire.proofs.InHello.{hello_brings, hello_meets, here, not_five, form_is}
 
 pub returns-then-not-hello_allows : goal.returns-then-not-hello_allows
 returns-then-not-hello_allows c limit text place room stands =

@@ -1,12 +1,10 @@
-use Rattle.std.proofs.Common.{◌≡◌, ℕ, ◌∙◌, ◌+◌, ◌<◌, ◌++◌, ◌∷◌, [], ap, sym, refl, arith, length, None, Option, true, false, inl, inr}
+use Rattle.std.proofs.Common.{◌≡◌, ◌∙◌, ◌++◌, ◌∷◌, [], ap, sym, refl, true, false, inl, inr}
 use Rattle.std.specs.Prelude.{◌==◌}
 use Rattle.std.proofs.lemmas.Bool.{eq-eqb}
 use Rattle.std.proofs.lemmas.Bool.Decides.{eqb_tells}
-use Rattle.hk_base.specs.declared.plain.WireFault.{WireFault}
 use Rattle.hk_spec_streams.specs.LastPacket.{last_packet}
 use Rattle.hk_station_wire.specs.Held.{length_in}
 use Rattle.hk_station_wire.specs.Items.{carries_prints}
-use Rattle.hk_station_wire.specs.Steps.{head_fault}
 use Rattle.hk_station_wire.proofs.reader.Reader.take_packet.Goals as goal
 use Rattle.hk_station_wire.proofs.Behind.{Looked, head_meets, brings_other, brings_gap_begin, brings_gap_end, brings_fence, brings_sound, brings_outcome}
 
