@@ -1,5 +1,5 @@
 -- Before the first byte.
-use Rattle.std.proofs.Common.{◌≡◌, ℕ, List, [], ◌∷◌, length, refl, sym, ◌∙◌, ap, subst, map, ◌*◌, arith, None}
+use Rattle.std.proofs.Common.{◌≡◌, ℕ, [], ◌∷◌, length, refl, sym, ◌∙◌, ap, subst, map, ◌*◌, arith, None}
 use Rattle.std.specs.List.{enumerate_from}
 use Rattle.hk_base.specs.declared.plain.Print.{Print}
 use Rattle.hk_spec_sound.specs.Windows.{windows}

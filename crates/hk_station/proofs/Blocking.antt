@@ -1,11 +1,11 @@
 -- The blocks of a text of the form, and what a byte adds to them.
-use Rattle.std.proofs.Common.{◌≡◌, ℕ, suc, ◌+◌, ◌-◌, ◌*◌, ◌<◌, List, [], ◌∷◌, ◌++◌, length, map, refl, sym, ◌∙◌, ap, subst, arith, Bool, true, false, cond, Option, None}
+use Rattle.std.proofs.Common.{◌≡◌, ℕ, suc, ◌+◌, ◌*◌, List, [], ◌∷◌, ◌++◌, length, map, sym, ◌∙◌, ap, subst, arith, true, false, cond}
 use Rattle.std.proofs.lemmas.List.{append-nil, map-append}
 use Rattle.std.specs.Prelude.{flat_map}
 use Rattle.std.specs.List.{enumerate_from}
 use Rattle.hk_base.specs.declared.plain.Print.{Print}
 use Rattle.hk_spec_sound.specs.Windows.{windows}
-use Rattle.hk_spec_streams.specs.Station.{segments, sent_prints, prints_of, channels_of, factor_of, station_fault}
+use Rattle.hk_spec_streams.specs.Station.{sent_prints, prints_of, channels_of, factor_of}
 use Rattle.hk_spec_streams.specs.LastPacket.{all_sent_prints}
 use Rattle.hk_spec_streams.specs.Blocks.{Setting, Block, blocks, blocks_of_segment}
 use Rattle.hk_spec_runs.specs.Desk.{Rules}
@@ -15,7 +15,7 @@ use Rattle.hk_block.specs.Ring.{Ring, Takes, AddsBlock, PlacesBlock, BLOCK_SIZE,
 use Rattle.hk_block.specs.Ring as rings
 use Rattle.hk_station.specs.Taken.{HasForm, HasTaken}
 use Rattle.hk_station.specs.Outcome.{block_at}
-use Rattle.hk_station.proofs.Meaning.{Goes, Quiet, Sends}
+use Rattle.hk_station.proofs.Meaning.{Quiet, Sends}
 
 enumerate-append : {A : Type 0} (n : ℕ) (xs ys : List A) → enumerate_from n (xs ++ ys) ≡ enumerate_from n xs ++ enumerate_from (n + length xs) ys
 enumerate-append n [] ys = let same : n ≡ n + 0 = omega arith in ap (λ m. enumerate_from m ys) same

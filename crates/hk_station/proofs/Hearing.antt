@@ -1,5 +1,5 @@
 -- What hearing a byte makes of a listener, where the byte meets no fault.
-use Rattle.std.proofs.Common.{◌≡◌, ℕ, ◌+◌, ◌<◌, List, [], ◌∷◌, ◌++◌, length, map, refl, sym, ◌∙◌, ap, subst, arith, length-append, Bool, true, false, cond, Option, Some, None, option_map}
+use Rattle.std.proofs.Common.{◌≡◌, ℕ, ◌+◌, List, [], ◌∷◌, ◌++◌, length, map, sym, ◌∙◌, ap, arith, length-append, cond, Option, Some, None, option_map}
 use Rattle.std.proofs.lemmas.Bool.{lt-ltb}
 use Rattle.std.proofs.lemmas.List.{append-nil}
 use Rattle.std.specs.Prelude.{nat_lt, find, flat_map}
@@ -8,7 +8,7 @@ use Rattle.std.specs.List.{enumerate_from}
 use Rattle.hk_base.specs.declared.plain.WireFault.{WireFault}
 use Rattle.hk_base.specs.declared.plain.End.TheVariants as ends
 use Rattle.hk_spec_streams.specs.Pieces.{completed}
-use Rattle.hk_spec_streams.specs.Station.{station_met, station_fault, fences, Fence}
+use Rattle.hk_spec_streams.specs.Station.{station_fault, fences, Fence}
 use Rattle.hk_spec_streams.specs.Blocks.{Block, blocks}
 use Rattle.hk_spec_streams.proofs.Completing.{completed-append}
 use Rattle.hk_spec_matching.specs.Catalogue.{Songs}
@@ -17,10 +17,8 @@ use Rattle.hk_spec_runs.specs.Desk.{Rules}
 use Rattle.hk_spec_runs.specs.Replay.{Listener, heard, new_blocks, report_in}
 use Rattle.hk_block.specs.Ring.{Ring, first_word}
 use Rattle.hk_block.specs.Looker.{matches_in}
-use Rattle.hk_station_wire.specs.declared.wire.Wire.{Wire}
 use Rattle.hk_station.specs.declared.station.Station.{Station}
-use Rattle.hk_station.specs.Taken.{HasForm, HasTaken}
-use Rattle.hk_station.specs.Hearing.{IsHearing}
+use Rattle.hk_station.specs.Taken.{HasForm}
 use Rattle.hk_station.specs.Outcome.{blocks_gained, lines_gained, looks_gained, block_at, head_at}
 use Rattle.hk_station.proofs.Meaning.{no_fence}
 use Rattle.hk_station.proofs.Stepping.{meets_none}

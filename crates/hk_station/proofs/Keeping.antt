@@ -1,5 +1,5 @@
 -- A byte that doesn't leave the form: it meets no fault, and the text with it has the form.
-use Rattle.std.proofs.Common.{◌≡◌, ℕ, zero, suc, ◌+◌, ◌-◌, ◌<◌, ◌≤◌, List, [], ◌∷◌, ◌++◌, length, take, drop, refl, sym, ◌∙◌, ap, subst, arith, length-append, Bool, true, false, inl, inr, cond, slice_index, Option, Some, None, map}
+use Rattle.std.proofs.Common.{◌≡◌, ℕ, zero, suc, ◌+◌, ◌-◌, ◌<◌, ◌≤◌, List, [], ◌∷◌, ◌++◌, length, take, drop, refl, sym, ◌∙◌, ap, arith, length-append, Bool, true, false, inl, inr, slice_index, None, map}
 use Rattle.std.proofs.lemmas.Bool.{le-ltb, and_left, and_right, or_left, or_parts, not-false, cases_Bool, cases_lt, cases_eq, eqb-true}
 use Rattle.std.proofs.lemmas.Bool.Decides.{leb_tells}
 use Rattle.std.proofs.lemmas.List.{get_or_append_left, get_or_past, get_or_push}
@@ -13,13 +13,13 @@ use Rattle.hk_base.specs.declared.plain.Print.{Print}
 use Rattle.hk_base.specs.declared.plain.WireFault.{WireFault}
 use Rattle.hk_spec_streams.specs.Pieces.{first_that_holds, is_one_of, completed}
 use Rattle.hk_spec_streams.specs.Grammar.{packet_size}
-use Rattle.hk_spec_streams.specs.Station.{station_met, station_hello, factors_for, station_length_fits, has_bad_mask, channels_of, segments, DATA, FENCE, GAP}
-use Rattle.hk_spec_streams.specs.LastPacket.{last_packet, all_sent_prints, begins_gap}
+use Rattle.hk_spec_streams.specs.Station.{station_met, station_hello, factors_for, station_length_fits, has_bad_mask, channels_of, DATA, GAP}
+use Rattle.hk_spec_streams.specs.LastPacket.{last_packet, all_sent_prints}
 use Rattle.hk_spec_streams.proofs.GrowingPackets.{over}
 use Rattle.hk_spec_streams.proofs.GrowingSegments.{NextSegments, NewSegment, SameSegment, next_segments, data_gained}
 use Rattle.hk_spec_runs.specs.Built.{built_station, leaves_form}
 use Rattle.hk_station.specs.Taken.{HasForm}
-use Rattle.hk_station.proofs.Leaving.{built_hello, or_false, bad_hello, bad_kind, leaves_by, leaves_hello, leaves_begin, leaves_go, hello_packet, begin_packet, go_packet, some_bytes}
+use Rattle.hk_station.proofs.Leaving.{built_hello, or_false, bad_hello, bad_kind, leaves_by, leaves_hello, leaves_begin, hello_packet, begin_packet, go_packet, some_bytes}
 
 -- some completed print has a mask that isn't 0
 abbrev pub masked : List Print → Bool

@@ -1,19 +1,18 @@
 -- Whether a byte leaves the form that is built, by where it stands: in the hello, at a packet's begin, or in a packet.
-use Rattle.std.proofs.Common.{◌≡◌, ℕ, ◌+◌, ◌-◌, ◌<◌, ◌≤◌, List, [], ◌∷◌, ◌++◌, length, take, drop, refl, sym, ◌∙◌, ap, subst, arith, length-append, Bool, true, false, inl, inr, cond, slice_index, Option, Some, None, is_some}
-use Rattle.std.proofs.lemmas.Bool.{lt-ltb, le-ltb, le-leb, eq-eqb, ne_eqb, and_left, or_parts, not-true, not-false}
+use Rattle.std.proofs.Common.{◌≡◌, ℕ, ◌+◌, ◌-◌, ◌<◌, ◌≤◌, List, [], ◌∷◌, ◌++◌, length, take, refl, sym, ◌∙◌, ap, arith, length-append, Bool, true, false, inl, inr, cond, slice_index, is_some}
+use Rattle.std.proofs.lemmas.Bool.{lt-ltb, le-ltb, eq-eqb, ne_eqb, and_left, or_parts, not-true, not-false}
 use Rattle.std.proofs.lemmas.Bool.Decides.{eqb_tells}
 use Rattle.std.proofs.Math.Bool.{and-false}
 use Rattle.std.proofs.Math.Seq.{get_or-append_seam, take-append_seam}
-use Rattle.std.specs.Prelude.{◌&&◌, ◌||◌, ◌==◌, not, nat_lt, nat_le, codes}
+use Rattle.std.specs.Prelude.{◌&&◌, ◌||◌, ◌==◌, not, nat_lt, codes}
 use Rattle.std.specs.Int.{w16}
 use Rattle.hk_base.specs.declared.plain.WireFault.{WireFault}
 use Rattle.hk_spec_streams.specs.Pieces.{first_that_holds, is_one_of, last_bytes}
 use Rattle.hk_spec_streams.specs.Grammar.{packets, packet_size, ends_at_start}
 use Rattle.hk_spec_streams.specs.Station.{station_grammar}
 use Rattle.hk_spec_streams.specs.LastPacket.{last_packet}
-use Rattle.hk_spec_streams.proofs.PacketSize.{packet_size_16}
-use Rattle.hk_spec_streams.proofs.GrowingPackets.{over, all_whole}
-use Rattle.hk_spec_streams.proofs.GrowingSegments.{packets_short, last_packet-next}
+use Rattle.hk_spec_streams.proofs.GrowingPackets.{over}
+use Rattle.hk_spec_streams.proofs.GrowingSegments.{packets_short, last_packet-next, starts}
 use Rattle.hk_spec_runs.specs.Built.{built_station, leaves_form}
 
 -- the hello of the form that is built
@@ -108,12 +107,6 @@ leaves_go text b late isnt =
     leaves_late text b late ∙ ap bad_kind (go_packet text b late isnt)
     ∙ and_left (length (last_packet text ++ b ∷ []) == 1) (not (is_one_of (1 ∷ []) (slice_index (last_packet text ++ b ∷ []) 0))) more
 
--- a text ends at a start where the next byte begins a packet
-pub start_is : (text : List ℕ) → ends_at_start station_grammar text ≡ (nat_le 6 (length text) && over (packet_size w16) (last_packet text))
-unfolding packets
-start_is text =
-    ap (λ c. nat_le 6 (length text) && c) (all_whole (packet_size w16) packet_size_16 (length (drop 6 text)) 6 (drop 6 text) (omega arith))
-
 -- the byte's test is the test of the row
 pub same_byte : (x y : ℕ) → (x == y) ≡ not (not (is_one_of (y ∷ []) x))
 same_byte x y = elim (eqb_tells x y) [
@@ -123,7 +116,7 @@ same_byte x y = elim (eqb_tells x y) [
 
 -- the next byte goes to a packet, or begins one
 pub goes_on : (text : List ℕ) → 6 ≤ length text → not (ends_at_start station_grammar text) ≡ true → over (packet_size w16) (last_packet text) ≡ false
-goes_on text late is = sym (ap (λ c. c && over (packet_size w16) (last_packet text)) (le-leb 6 (length text) late)) ∙ sym (start_is text) ∙ not-true _ is
+goes_on text late is = sym (starts text late) ∙ not-true _ is
 
 pub begins : (text : List ℕ) → 6 ≤ length text → not (ends_at_start station_grammar text) ≡ false → over (packet_size w16) (last_packet text) ≡ true
-begins text late isnt = sym (ap (λ c. c && over (packet_size w16) (last_packet text)) (le-leb 6 (length text) late)) ∙ sym (start_is text) ∙ not-false _ isnt
+begins text late isnt = sym (starts text late) ∙ not-false _ isnt

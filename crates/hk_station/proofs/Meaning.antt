@@ -1,9 +1,8 @@
 -- What a wire's item means for a text of the form, where the byte may stand there.
-use Rattle.std.proofs.Common.{◌≡◌, ℕ, ◌+◌, ◌-◌, ◌<◌, ◌≤◌, List, [], ◌∷◌, ◌++◌, length, drop, map, refl, sym, ◌∙◌, ap, subst, arith, length-append, Bool, true, false, inl, inr, cond, slice_index, Option, Some, None}
-use Rattle.std.proofs.lemmas.Bool.{and_left, and_right, cases_Bool, not-true}
+use Rattle.std.proofs.Common.{◌≡◌, ℕ, ◌<◌, List, [], ◌∷◌, ◌++◌, length, drop, map, refl, sym, ◌∙◌, ap, subst, arith, Bool, true, false, inl, inr, cond, slice_index, Option, Some, None}
+use Rattle.std.proofs.lemmas.Bool.{and_right, cases_Bool, not-true}
 use Rattle.std.proofs.lemmas.Bool.Decides.{eqb_tells}
 use Rattle.std.proofs.lemmas.List.{append-nil}
-use Rattle.std.proofs.Math.Bool.{and-false}
 use Rattle.std.specs.Prelude.{◌&&◌, ◌||◌, ◌==◌, not, nat_lt, slice_index_or}
 use Rattle.std.specs.Int.{w32, from_be_bytes}
 use Rattle.std.specs.Option.{option_map_or}
@@ -14,7 +13,10 @@ use Rattle.hk_spec_streams.specs.Pieces.{completed, last_bytes}
 use Rattle.hk_spec_streams.specs.Station.{station_met, station_fault, fences, Fence, DATA, FENCE, GAP}
 use Rattle.hk_spec_streams.specs.LastPacket.{last_packet, last_byte, all_sent_prints, ends_with_data, ends_gap, form_of}
 use Rattle.hk_spec_streams.proofs.NextFault.{fault_of-none}
-use Rattle.hk_spec_streams.proofs.GrowingSegments.{packets_short, fences_completed, completed-more, NextPrints, NoPrint, NoData, PartOfPrint, WholePrint, next_prints}
+use Rattle.hk_spec_streams.proofs.Completed.{completed-more}
+use Rattle.hk_spec_streams.proofs.GrowingSegments.{packets_short}
+use Rattle.hk_spec_streams.proofs.GrowingPrints.{NoPrint, NoData, PartOfPrint, WholePrint, next_prints}
+use Rattle.hk_spec_streams.proofs.GrowingFences.{fences_completed}
 use Rattle.hk_spec_runs.specs.Built.{built_station, leaves_form, leaves_station}
 use Rattle.hk_station_wire.specs.declared.item.Item.{Item}
 use Rattle.hk_station_wire.specs.declared.item.Item.TheVariants as item

@@ -1,5 +1,5 @@
 -- Facts of what came of a byte, from facts of it.
-use Rattle.std.proofs.Common.{◌≡◌, List, ℕ, [], refl, ap, sym, Option, Some, None}
+use Rattle.std.proofs.Common.{List, ℕ, [], refl, ap, sym, Option, Some, None}
 use Rattle.std.proofs.lemmas.List.{append-nil}
 use Rattle.hk_base.specs.Devices.{Wrote}
 use Rattle.hk_station.specs.declared.station.Heard.{Heard}

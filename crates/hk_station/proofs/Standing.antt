@@ -1,5 +1,5 @@
 -- What a wire tells of a text without a fault.
-use Rattle.std.proofs.Common.{◌≡◌, ℕ, List, length, refl, sym, ◌∙◌, ap, subst, Bool, true, false, cond, Option, Some, None, Result, Ok, Err, is_some}
+use Rattle.std.proofs.Common.{◌≡◌, ℕ, List, length, refl, ◌∙◌, ap, Bool, true, false, cond, Some, None, Result, Ok, Err, is_some}
 use Rattle.std.specs.Prelude.{not}
 use Rattle.std.specs.Option.{option_or}
 use Rattle.std.specs.Result.{result_err, is_err, is_ok}

@@ -1,13 +1,9 @@
-use Rattle.std.proofs.Common.{◌≡◌, ◌<◌, ◌≤◌, ◌∷◌, ◌++◌, [], length, refl, sym, ◌∙◌, ap, arith, true, false, slice_index}
-use Rattle.std.proofs.lemmas.Bool.{le-leb}
-use Rattle.std.specs.Prelude.{not, ◌&&◌}
-use Rattle.std.specs.Int.{w16}
+use Rattle.std.proofs.Common.{◌≡◌, ◌≤◌, ◌∷◌, [], length, sym, ◌∙◌, ap, arith, slice_index}
+use Rattle.std.specs.Prelude.{not}
 use Rattle.std.specs.Result.{is_err}
 use Rattle.hk_spec_streams.specs.Pieces.{is_one_of}
 use Rattle.hk_spec_streams.specs.Grammar.{ends_at_start}
 use Rattle.hk_spec_streams.specs.Station.{station_grammar}
-use Rattle.hk_spec_streams.specs.LastPacket.{last_packet}
-use Rattle.hk_spec_streams.proofs.GrowingPackets.{over}
 use Rattle.hk_station_wire.specs.Taken.{limit_of}
 use Rattle.hk_station.proofs.Leaving.{built_hello, leaves_hello, same_byte, leaves_begin, leaves_go, begins, goes_on}
 use Rattle.hk_station.proofs.Standing.{seen_is, is_err_is}

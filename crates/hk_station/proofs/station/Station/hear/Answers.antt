@@ -1,10 +1,9 @@
-use Rattle.std.proofs.Common.{◌≡◌, ◌≤◌, ◌<◌, ◌+◌, ◌++◌, [], ◌∷◌, ℕ, List, length, refl, sym, ◌∙◌, ap, subst, arith, length-append}
+use Rattle.std.proofs.Common.{◌≡◌, ◌+◌, ◌++◌, [], ◌∷◌, length, refl, sym, ◌∙◌, ap, subst, arith, length-append}
 use Rattle.hk_base.specs.Devices.{Wrote}
 use Rattle.hk_report.specs.Fronts.{WroteFront}
 use Rattle.hk_spec_streams.specs.Blocks.{blocks}
 use Rattle.hk_spec_lines.specs.Lines.{line}
-use Rattle.hk_spec_runs.specs.Desk.{Rules}
-use Rattle.hk_spec_runs.specs.Replay.{Listener, heard}
+use Rattle.hk_spec_runs.specs.Replay.{heard}
 use Rattle.hk_block.specs.Looker.{matches_in}
 use Rattle.hk_station.specs.Taken.{HasTaken}
 use Rattle.hk_station.specs.Hearing.{IsHearing, ForEach}

@@ -1,4 +1,4 @@
-use Rattle.std.proofs.Common.{◌≡◌, [], length, refl, sym, ◌∙◌, ap}
+use Rattle.std.proofs.Common.{length, refl, sym, ◌∙◌, ap}
 use Rattle.hk_station.proofs.Beginning.{begins, no_blocks}
 use Rattle.hk_station.proofs.station.Station.new.Goals as goal
 

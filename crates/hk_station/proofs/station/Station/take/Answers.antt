@@ -1,12 +1,11 @@
-use Rattle.std.proofs.Common.{◌≡◌, ◌≤◌, ◌<◌, ◌+◌, ◌++◌, [], ◌∷◌, ℕ, List, length, Bool, true, false, not, refl, sym, ◌∙◌, ap, subst, arith}
-use Rattle.std.proofs.Math.Logic.{∥∥₁_map}
+use Rattle.std.proofs.Common.{◌≡◌, ◌≤◌, ◌<◌, ◌++◌, [], ◌∷◌, true, sym, ◌∙◌, subst, arith}
 use Rattle.hk_spec_runs.specs.Built.{leaves_station}
 use Rattle.hk_station_wire.specs.Taken.{limit_of}
-use Rattle.hk_block.specs.Ring.{MOST_PRINTS, completes_block}
+use Rattle.hk_block.specs.Ring.{MOST_PRINTS}
 use Rattle.hk_station.specs.declared.station.Content.TheVariants as contents
 use Rattle.hk_station.specs.Taken.{HasTaken, MOST_BYTES}
 use Rattle.hk_station.proofs.Blocking.{blocks_stay, blocks_grow, blocks_wait, taken_quiet, taken_print}
-use Rattle.hk_station.proofs.Meaning.{Means, Quiet, Sends, taken_now, means_now}
+use Rattle.hk_station.proofs.Meaning.{Quiet, Sends, taken_now, means_now}
 use Rattle.hk_station.proofs.Stepping.{stays_in_step, goes_in_step, has_room}
 use Rattle.hk_station.proofs.station.Station.take.Goals as goal
 
