@@ -77,7 +77,7 @@ module _ (text : List ℕ) (b : ℕ) (form : HasForm text) (stays : leaves_form 
   kind_wanted : 6 ≤ length text → over (packet_size w16) (last_packet text) ≡ true → b ≡ DATA
   kind_wanted late is = sym (eqb-true 1 b (sym (or_false (1 == b)) ∙ not-false _ (sym (leaves_begin text b late is) ∙ stays)))
 
-  pub data_kept : 0 < length (last_packet (text ++ b ∷ [])) → slice_index (last_packet (text ++ b ∷ [])) 0 ≡ DATA
+  data_kept : 0 < length (last_packet (text ++ b ∷ [])) → slice_index (last_packet (text ++ b ∷ [])) 0 ≡ DATA
   data_kept some = elim (leb_tells 6 (length text)) [
     | inr early ↦ absurd (let none : length (last_packet (text ++ b ∷ [])) ≡ 0 = ap length (hello_packet text b (omega (arith, early.1))) in omega arith)
     | inl late ↦ elim (cases_Bool (over (packet_size w16) (last_packet text))) [
@@ -90,7 +90,7 @@ module _ (text : List ℕ) (b : ℕ) (form : HasForm text) (stays : leaves_form 
     ]
   ]
 
-  pub prints_kept : channels_of (text ++ b ∷ []) ≡ 0
+  prints_kept : channels_of (text ++ b ∷ []) ≡ 0
   prints_kept = elim (cases_lt (length text) 4) [
     | inl early ↦ get_or_past (text ++ b ∷ []) 4 0 (omega (arith, long))
     | inr late ↦ elim (cases_eq (length text) 4) [

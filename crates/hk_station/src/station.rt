@@ -15,7 +15,7 @@ ghost use Rattle.hk_report.specs.Fronts.{WroteFront};
 ghost use Rattle.hk_station.specs.Taken.{MOST_BYTES, IsInStep};
 ghost use Rattle.hk_station.specs.Content.{content_of};
 
-use hk_base::{Failed, Head, NoMemory, Print, Sink, Steps};
+use hk_base::{Head, NoMemory, Print, Sink, Steps};
 use hk_block::{BlockRing, Looker, Scratch};
 use hk_report::write_line;
 use hk_station_wire::{Item, Wire};
