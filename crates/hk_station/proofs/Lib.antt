@@ -1,0 +1,9 @@
+pub mod Leaving
+pub mod Beginning
+pub mod Standing
+pub mod Hearing
+pub mod Keeping
+pub mod Meaning
+pub mod Blocking
+pub mod Stepping
+pub mod Outcomes

@@ -1,0 +1,4 @@
+pub mod Content
+pub mod Hearing
+pub mod Outcome
+pub mod Taken
