@@ -19,6 +19,14 @@ STEP = 1442695040888963407
 SEED = 24  # of the pseudo-random frame: it has bins whose rounding meets a half
 
 
+def decimated(factor, xs):
+    """The weighted means of 2 * factor - 1 samples, a new one each factor samples."""
+    weights = list(range(1, factor + 1)) + list(range(factor - 1, 0, -1))
+    square = factor * factor
+    starts = range(0, len(xs) - len(weights) + 1, factor)
+    return [(sum(w * x for w, x in zip(weights, xs[i:])) + square // 2) // square for i in starts]
+
+
 def midpoint(u, v):
     """The point between two neighbours, moved out to the circle."""
     x, y = u[0] + v[0], u[1] + v[1]
@@ -114,6 +122,10 @@ def impulse(place):
 
 
 def main():
+    print("decimation of 1000 pseudo-random samples")
+    for factor in (1, 2, 4, 8):
+        ys = decimated(factor, draws(3, 1000, 16))
+        print(f"  by {factor}: {len(ys)} samples, digest {digest(ys)}")
     print("circle")
     for name, table in (("cos", C), ("sin", S), ("window", W)):
         print(f"  {name}: digest {digest(table)}")
