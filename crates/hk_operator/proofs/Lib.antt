@@ -1,0 +1,5 @@
+pub mod Built
+pub mod Payloads
+pub mod Scenes
+pub mod Starting
+pub mod Following

@@ -1,0 +1,4 @@
+pub mod Payload
+pub mod Inside
+pub mod Answers
+pub mod Obeying

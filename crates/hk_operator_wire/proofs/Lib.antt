@@ -1,0 +1,5 @@
+pub mod Reading
+pub mod Saying
+pub mod Payloads
+mod Moving
+pub mod Taking

@@ -1,0 +1,4 @@
+pub mod Heads
+pub mod Items
+pub mod Taken
+pub mod Says

@@ -1,0 +1,32 @@
+-- A wire and the text that it has taken.
+use Rattle.std.specs.Prelude.{◌≡◌, ℕ, List, length, Option, None}
+use Rattle.hk_base.specs.declared.plain.WireFault.{WireFault}
+use Rattle.hk_operator_wire.specs.declared.reader.OpReader.{OpReader}
+use Rattle.hk_operator_wire.specs.declared.wire.OpWire.{OpWire}
+use Rattle.hk_station_wire.specs.Held.{IsLast, count_of}
+use Rattle.hk_spec_streams.specs.Operator.{operator_fault, operator_seen}
+use Rattle.hk_operator_wire.specs.Items.{last_command}
+use Rattle.hk_operator_wire.specs.Heads.{Ends}
+
+-- how many bytes of the last command came
+abbrev pub command_count : OpReader → ℕ
+command_count reader = count_of reader.packet
+
+-- The reader stands at the end of a text without a fault: it has the last command's first bytes and its last four.
+pub record StandsAfter (reader : OpReader) (text : List ℕ) : Type 0 where
+  pub packet : IsLast reader.packet (last_command text)
+  pub recent : Ends reader.recent (last_command text)
+
+-- at most so many bytes are taken
+abbrev pub limit_of : OpWire → ℕ
+limit_of wire = wire.limit
+
+-- the fault that the wire has met
+abbrev pub fault_met : OpWire → Option WireFault
+fault_met wire = wire.fault
+
+-- The wire has taken this text: it has met the text's fault, and where there is none it stands at the text's end.
+pub record HasTaken (wire : OpWire) (text : List ℕ) : Type 0 where
+  pub fault : wire.fault ≡ operator_fault wire.limit text
+  pub taken : wire.taken ≡ length (operator_seen wire.limit text)
+  pub stands : wire.fault ≡ None → StandsAfter wire.reader text

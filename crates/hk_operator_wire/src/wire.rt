@@ -1,0 +1,99 @@
+// The wire of an operator's stream.
+ghost use Rattle.std.specs.Prelude.{◌≡◌, ◌≤◌, ◌++◌, ℕ, List, [], ◌∷◌, length, Some, None};
+ghost use Rattle.std.specs.Result.{result_err};
+ghost use Rattle.hk_base.specs.declared.plain.WireFault.{WireFault};
+ghost use Rattle.hk_spec_streams.specs.Operator.{operator_wrong, operator_seen};
+ghost use Rattle.hk_station_wire.specs.Held.{count_of};
+
+use crate::item::OpItem;
+use crate::reader::OpReader;
+use hk_base::WireFault;
+
+/// An operator's stream as far as it was taken. It keeps its place, its last command's first and last bytes and its
+/// fault, and no history.
+#[derive(Debug, Drop)]
+pub struct OpWire {
+    limit: u64,
+    taken: u64,
+    reader: OpReader,
+    fault: Option<WireFault>,
+    ghost within: { taken ≤ limit },
+    ghost begun: { fault ≡ None → count_of reader.packet ≤ taken },
+}
+
+impl OpWire {
+    ghost use Rattle.hk_operator_wire.specs.Taken.{HasTaken, limit_of, fault_met};
+    ghost use Rattle.hk_operator_wire.specs.Items.{op_item_at};
+
+    /// A wire that has taken nothing, and takes at most `limit` bytes.
+    pub fn new(limit: u64) -> OpWire
+        ensures nothing_taken { HasTaken result [] }
+        ensures limit { limit_of result ≡ limit }
+    {
+        OpWire {
+            limit,
+            taken: 0,
+            reader: OpReader::new(),
+            fault: None,
+        }
+    }
+
+    /// Takes the stream's next byte, and answers with what it brings. After a fault each push answers that fault and
+    /// changes nothing.
+    pub fn push(&mut self, byte: u8) -> OpItem
+        ensures item { (text : List ℕ) → HasTaken self.old text → result ≡ op_item_at (limit_of self.old) (text ++ byte ∷ []) }
+        ensures taken { (text : List ℕ) → HasTaken self.old text → HasTaken self.new (text ++ byte ∷ []) }
+        ensures limit_stays { limit_of self.new ≡ limit_of self.old }
+        ensures same_fault { (fault : WireFault) → fault_met self.old ≡ Some fault → result ≡ OpItem.Fault fault }
+        ensures fault_changes_nothing { (fault : WireFault) → fault_met self.old ≡ Some fault → self.new ≡ self.old }
+    {
+        match self.fault {
+            Some(fault) => OpItem::Fault(fault),
+            None => self.take(byte),
+        }
+    }
+
+    // Takes the next byte where no fault was met.
+    fn take(&mut self, byte: u8) -> OpItem
+        requires { fault_met self.old ≡ None }
+        ensures item { (text : List ℕ) → HasTaken self.old text → result ≡ op_item_at (limit_of self.old) (text ++ byte ∷ []) }
+        ensures taken { (text : List ℕ) → HasTaken self.old text → HasTaken self.new (text ++ byte ∷ []) }
+        ensures limit_stays { limit_of self.new ≡ limit_of self.old }
+    {
+        if self.taken == self.limit {
+            let fault = WireFault::TooLong(self.limit);
+            self.fault = Some(fault);
+            return OpItem::Fault(fault);
+        }
+        match self.reader.take(self.taken, byte) {
+            Ok(item) => {
+                self.taken += 1;
+                item
+            }
+            Err(fault) => {
+                self.fault = Some(fault);
+                OpItem::Fault(fault)
+            }
+        }
+    }
+
+    /// Whether the stream may end here: Ok where no byte came or a command ended, and else the fault that was met, or
+    /// Cut with the number of bytes. Changes nothing.
+    pub fn finish(&mut self) -> Result<(), WireFault>
+        ensures outcome { (text : List ℕ) → HasTaken self.old text → result_err result ≡ operator_wrong (limit_of self.old) text }
+        ensures changes_nothing { self.new ≡ self.old }
+    {
+        match self.fault {
+            Some(fault) => Err(fault),
+            None if self.reader.may_end(self.taken) => Ok(()),
+            None => Err(WireFault::Cut(self.taken)),
+        }
+    }
+
+    /// How many bytes were taken before the fault, or in all.
+    pub fn taken(&self) -> u64
+        ensures { (text : List ℕ) → HasTaken self.now text → result ≡ length (operator_seen (limit_of self.now) text) }
+    {
+        self.taken
+    }
+}

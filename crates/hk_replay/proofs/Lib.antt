@@ -1,0 +1,9 @@
+mod Form
+mod Arriving
+mod PlayLaws
+mod Holding
+mod HoldSteps
+mod TakeSteps
+mod Summing
+mod Opening
+mod Endings

@@ -1,0 +1,47 @@
+-- The statuses of the top call, and what its words ask for.
+use Rattle.std.specs.Prelude.{◌≡◌, ◌⊎◌, ℕ, List, [], ◌∷◌, String, string_bytes, codes, bytes_eq, if◌then◌else◌, Option, Some, None}
+use Rattle.std.specs.Option.{IfSome}
+use Rattle.hk_spec_runs.specs.Desk.{Rules}
+use Rattle.hk_spec_runs.specs.Words.{rules_of}
+use Rattle.hk_spec_runs.specs.Outcome.{Task}
+use Rattle.hk_spec_runs.specs.Built.{built_task}
+
+-- the rules of a run of one station, with all options at their defaults
+unfoldable pub default_rules : Rules
+default_rules = rules_of 1 []
+
+-- what the words ask for, as far as it is built: the one word `replay`
+abbrev pub asked : {A : Type 0} → List (String A) → Option Rules
+asked [] = None
+asked (word ∷ []) = if bytes_eq (string_bytes word) (codes "replay") then Some default_rules else None
+asked (word ∷ other ∷ words) = None
+
+-- a fact of what the words ask for, where they ask for something
+abbrev pub IfAsked : {A : Type 0} → List (String A) → (Task → Type 0) → Type 0
+IfAsked words P = IfSome (asked words) (λ rules. P (built_task rules))
+
+-- the statuses of a run that was opened: it ended in order, reading failed, writing failed, or it was stopped
+abbrev pub IsPlayedStatus : ℕ → Type 0
+IsPlayedStatus code = (code ≡ 0) ⊎ (code ≡ 5) ⊎ (code ≡ 6) ⊎ (code ≡ 7)
+
+-- the statuses of the top call: also where the words ask for nothing that is built, and for want of memory
+abbrev pub IsStatus : ℕ → Type 0
+IsStatus code = (code ≡ 2) ⊎ (code ≡ 4) ⊎ IsPlayedStatus code
+
+abbrev pub ENDED : ℕ
+ENDED = 0
+
+abbrev pub USAGE : ℕ
+USAGE = 2
+
+abbrev pub NO_MEMORY : ℕ
+NO_MEMORY = 4
+
+abbrev pub READ_FAULT : ℕ
+READ_FAULT = 5
+
+abbrev pub WRITE_FAULT : ℕ
+WRITE_FAULT = 6
+
+abbrev pub STOPPED : ℕ
+STOPPED = 7

@@ -1,0 +1,114 @@
+// What the words and an input give.
+ghost use Rattle.std.specs.Prelude.{◌≡◌, ◌≤◌, ◌<◌, ℕ, List, IsNone, Some, None, true, [], is_some};
+ghost use Rattle.hk_base.specs.Devices.{Rose};
+ghost use Rattle.hk_spec_runs.specs.Desk.{Rules};
+ghost use Rattle.hk_spec_runs.specs.Outcome.{Trades, IsWhole, IsStopped, IsUnread, IsUnwritten};
+ghost use Rattle.hk_spec_runs.specs.Built.{built_task, built_wrong};
+ghost use Rattle.hk_replay.specs.Top.{asked, default_rules, IfAsked, IsPlayedStatus, IsStatus, ENDED, USAGE, NO_MEMORY, READ_FAULT, WRITE_FAULT, STOPPED};
+ghost use Rattle.hk_replay.specs.Holding.{Plays};
+
+use crate::conclude::replay;
+use crate::run::Run;
+use hk_base::{Sink, Source, Status, Steps};
+use std::alloc::Global;
+use std::marker::Brand;
+use std::sync::ledger::{Blank, Ledger};
+
+/// Does what the words say with the input, and writes the answer. The statuses are 0 where the input was replayed whole, 2
+/// where the words aren't `replay` alone, 4 for want of memory, 5 where reading failed, 6 where writing failed, and 7 where
+/// the input leaves the form that is built.
+pub fn replay_top<S: Source, K: Sink>(
+    alloc: Global,
+    words: &Vec<String>,
+    input: &mut S,
+    out: &mut K,
+) -> Status
+    ensures known { IsStatus result.code }
+
+    ensures reads_count { S.faults input.old ≤ S.faults input.new }
+    ensures writes_count { K.faults out.old ≤ K.faults out.new }
+
+    // The words are no command that is built, and so nothing was read or written.
+    ensures usage_only { result.code ≡ USAGE → IsNone (asked words.now.items) }
+    ensures usage { IsNone (asked words.now.items) → result.code ≡ USAGE }
+    ensures usage_unread { result.code ≡ USAGE → S.left input.new ≡ S.left input.old }
+    ensures usage_unwritten { result.code ≡ USAGE → K.written out.new ≡ K.written out.old }
+
+    ensures no_memory_unwritten { result.code ≡ NO_MEMORY → K.written out.new ≡ K.written out.old }
+
+    // All of the input was read and is of the form that is built, and its whole text was written.
+    ensures ended { result.code ≡ ENDED → IfAsked words.now.items (λ task.
+        Trades (S.left input.old) (S.left input.new) (K.written out.old) (K.written out.new) (IsWhole task (S.left input.new) true)) }
+
+    // Reading failed, and so the text ends with that.
+    ensures read_fault_cause { result.code ≡ READ_FAULT → Rose (S.faults input.old) (S.faults input.new) }
+    ensures read_fault { result.code ≡ READ_FAULT → IfAsked words.now.items (λ task.
+        Trades (S.left input.old) (S.left input.new) (K.written out.old) (K.written out.new) (IsUnread task)) }
+
+    // Writing failed, and what was written begins the text.
+    ensures write_fault_cause { result.code ≡ WRITE_FAULT → Rose (K.faults out.old) (K.faults out.new) }
+    ensures write_fault { result.code ≡ WRITE_FAULT → IfAsked words.now.items (λ task.
+        Trades (S.left input.old) (S.left input.new) (K.written out.old) (K.written out.new)
+        (IsUnwritten task (Rose (S.faults input.old) (S.faults input.new)) (S.left input.new))) }
+
+    // The input leaves the form, and the text ends with the place.
+    ensures stopped { result.code ≡ STOPPED → IfAsked words.now.items (λ task.
+        Trades (S.left input.old) (S.left input.new) (K.written out.old) (K.written out.new) (IsStopped task (S.left input.new))) }
+
+    // An input of the form is never refused: where no device failed and memory sufficed, it is replayed whole.
+    ensures complete { (rules : Rules) → asked words.now.items ≡ Some rules → (b : List ℕ) → S.left input.old ≡ Some b → built_wrong rules [] b ≡ None →
+        (Rose (S.faults input.old) (S.faults input.new) → ⊥) → (Rose (K.faults out.old) (K.faults out.new) → ⊥) → (result.code ≡ NO_MEMORY → ⊥) →
+        result.code ≡ ENDED }
+{
+    if !is_replay(words) {
+        return Status { code: 2 };
+    }
+    match Run::new(alloc) {
+        Ok(run) => run_counted::<S, K, Brand>(run, input, out, Blank::new(1)),
+        Err(_) => Status { code: 4 },
+    }
+}
+
+// Whether the words are the one word `replay`.
+fn is_replay(words: &Vec<String>) -> bool
+    ensures { result ≡ is_some (asked words.now.items) }
+{
+    match words.as_slice() {
+        [word] => word.as_str() == "replay",
+        _ => false,
+    }
+}
+
+// Replays the input, and counts the steps of its looks in a ledger of their own.
+fn run_counted<S: Source, K: Sink, L: Ledger>(
+    run: Run,
+    input: &mut S,
+    out: &mut K,
+    blank: Blank,
+) -> Status
+    requires name { blank.name ≡ L.name }
+    requires parts { blank.parts ≡ L.parts }
+    requires some { 0 < L.parts }
+    requires opened { Plays default_rules run [] }
+
+    ensures known { IsPlayedStatus result.code }
+    ensures reads_count { S.faults input.old ≤ S.faults input.new }
+    ensures writes_count { K.faults out.old ≤ K.faults out.new }
+    ensures ended { result.code ≡ ENDED →
+        Trades (S.left input.old) (S.left input.new) (K.written out.old) (K.written out.new) (IsWhole (built_task default_rules) (S.left input.new) true) }
+    ensures read_fault { result.code ≡ READ_FAULT →
+        Trades (S.left input.old) (S.left input.new) (K.written out.old) (K.written out.new) (IsUnread (built_task default_rules)) }
+    ensures stopped { result.code ≡ STOPPED →
+        Trades (S.left input.old) (S.left input.new) (K.written out.old) (K.written out.new) (IsStopped (built_task default_rules) (S.left input.new)) }
+    ensures write_fault { result.code ≡ WRITE_FAULT →
+        Trades (S.left input.old) (S.left input.new) (K.written out.old) (K.written out.new)
+        (IsUnwritten (built_task default_rules) (Rose (S.faults input.old) (S.faults input.new)) (S.left input.new)) }
+    ensures read_fault_cause { result.code ≡ READ_FAULT → Rose (S.faults input.old) (S.faults input.new) }
+    ensures write_fault_cause { result.code ≡ WRITE_FAULT → Rose (K.faults out.old) (K.faults out.new) }
+    ensures complete { (b : List ℕ) → S.left input.old ≡ Some b → built_wrong default_rules [] b ≡ None →
+        (Rose (S.faults input.old) (S.faults input.new) → ⊥) → (Rose (K.faults out.old) (K.faults out.new) → ⊥) → result.code ≡ ENDED }
+{
+    let mut run = run;
+    let mut steps = Steps::new(blank);
+    replay::<S, K, L>(&mut run, input, out, &mut steps)
+}
