@@ -1,8 +1,8 @@
 -- What a byte behind the hello brings, for each part of a packet.
-use Rattle.std.proofs.Common.{◌≡◌, ℕ, ◌+◌, ◌-◌, ◌<◌, ◌≤◌, List, [], ◌∷◌, ◌++◌, length, take, drop, subst, refl, sym, ◌∙◌, ap, arith, length-append, Bool, true, false, inl, inr, None, Some, cond, slice_index}
+use Rattle.std.proofs.Common.{◌≡◌, ℕ, ◌+◌, ◌<◌, ◌≤◌, List, [], ◌∷◌, ◌++◌, length, take, drop, subst, refl, sym, ◌∙◌, ap, arith, length-append, Bool, true, false, inl, inr, None, Some, cond, slice_index}
 use Rattle.std.proofs.lemmas.List.{take_all}
 use Rattle.std.proofs.lemmas.Bool.{lt-ltb, le-ltb}
-use Rattle.std.specs.Prelude.{◌&&◌, ◌||◌, nat_lt, count_ones, Ok, Err, Result, if◌then◌else◌, ◌^◌}
+use Rattle.std.specs.Prelude.{◌&&◌, ◌||◌, nat_lt, count_ones, Ok, Err, Result, if◌then◌else◌}
 use Rattle.std.specs.Option.{option_or}
 use Rattle.std.specs.Int.{w32, from_be_bytes}
 use Rattle.std.specs.List.{list_any}
@@ -15,7 +15,7 @@ use Rattle.hk_spec_streams.specs.Pieces.{completed}
 use Rattle.hk_spec_streams.proofs.GrowingPackets.{known}
 use Rattle.hk_spec_streams.specs.Station.{station_met, sent_print, has_bad_mask, channels_of}
 use Rattle.hk_spec_streams.specs.LastPacket.{last_packet, last_segment, all_sent_prints, begins_gap, ends_with_data}
-use Rattle.hk_spec_streams.proofs.GrowingSegments.{last_packet-next, last_packet-le}
+use Rattle.hk_spec_streams.proofs.GrowingSegments.{last_packet-next}
 use Rattle.hk_spec_streams.proofs.GrowingPrints.{next_prints, NoPrint, NoData, PartOfPrint, WholePrint}
 use Rattle.hk_spec_streams.proofs.Completed.{completed-more}
 use Rattle.hk_station_wire.specs.declared.item.Item.{Item}

@@ -2,9 +2,6 @@
 ghost use Rattle.std.specs.Prelude.{◌≡◌, ◌+◌, ◌≤◌, ◌++◌, [], ◌∷◌, length, take, drop, slice_index};
 ghost use Rattle.std.specs.Int.{w16, w32, from_be_bytes};
 
-/// How many bytes are kept.
-pub const ROOM: usize = 12;
-
 /// The first bytes of something, at most twelve of them, in the order in which they came.
 #[derive(Clone, Copy, Debug)]
 pub struct Gathered {

@@ -1,4 +1,4 @@
-use Rattle.std.proofs.Common.{◌≡◌, ◌+◌, ◌≤◌, ◌<◌, ◌++◌, ◌∷◌, [], ◌∙◌, ap, sym, refl, arith, length, None, Some}
+use Rattle.std.proofs.Common.{◌≡◌, ◌≤◌, ◌++◌, ◌∷◌, [], ◌∙◌, ap, sym, refl, arith, length, Some}
 use Rattle.hk_base.specs.declared.plain.WireFault.TheVariants.{TooLong}
 use Rattle.hk_spec_streams.specs.Station.{station_met}
 use Rattle.hk_station_wire.proofs.MeetsFault.{met_limit}
