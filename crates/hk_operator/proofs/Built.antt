@@ -4,7 +4,6 @@ use Rattle.std.specs.Prelude.{◌==◌, ◌||◌, ◌&&◌, ◌⊎◌, not, nat_
 use Rattle.std.specs.Int.{w32, from_be_bytes}
 use Rattle.std.specs.Result.{result_err}
 use Rattle.std.proofs.lemmas.Bool.{cases_lt, cases_Bool, lt-ltb, le-ltb, le-leb, lt-leb, eqb-true, eq-eqb, or_cases, or_parts, and_right, both_ways}
-use Rattle.std.proofs.lemmas.List.{take-append-le, take_all, get_or_at}
 use Rattle.hk_base.specs.declared.plain.WireFault.{WireFault}
 use Rattle.hk_base.specs.declared.plain.WireFault.TheVariants.{BadHello, BadKind, BadLength, BadFormat, TooLong}
 use Rattle.hk_spec_streams.specs.Pieces.{first_that_holds, is_one_of}
@@ -17,7 +16,7 @@ use Rattle.hk_spec_runs.specs.Built.{built_operator, leaves_form}
 use Rattle.hk_operator_wire.specs.declared.item.OpItem.TheVariants as items
 use Rattle.hk_operator_wire.specs.Items.{last_command}
 use Rattle.hk_operator_wire.specs.Heads.{head_of, head_fault, hello_allows, is_kind, has_bad_form}
-use Rattle.hk_operator_wire.proofs.Reading.{next_bytes, last_command-next, hello_stays, hello_met, packet_met, first_four}
+use Rattle.hk_operator_wire.proofs.Reading.{next_bytes, last_command-next, hello_stays, hello_met, packet_met, first_four, wrong_at, wrong-next}
 use Rattle.hk_operator_wire.proofs.Payloads.{same_kind, same_length}
 use Rattle.hk_operator.specs.Obeying.{is_built_kind, IsBuilt}
 
@@ -113,9 +112,6 @@ some_row false false true d x y z w = refl
 some_row false false false true x y z w = refl
 some_row false false false false x y z w = refl
 
-abbrev wrong_at : List ℕ → Bool
-wrong_at text = not (hello_allows (length (take (length text - 1) text)) (slice_index text (length text - 1)))
-
 abbrev bad_kind : List ℕ → Bool
 bad_kind bytes = (length bytes == 1) && not (is_built_kind (slice_index bytes 0))
 
@@ -129,14 +125,6 @@ unfolding packets form_by
 form_is text = some_row (nat_lt (length text) (length text)) (nat_lt (length text - 1) 4 && wrong_at text) (bad_kind (last_command text))
     ((length (last_command text) == 5) && not (command_length_fits (slice_index (last_command text) 0) (from_be_bytes w32 (drop 1 (last_command text)))))
     (TooLong (length text)) (BadHello (length text - 1)) (BadKind (length text - 1)) (BadLength (length text - 1 + 1 - 4))
-
-wrong-next : (text : List ℕ) (b : ℕ) → wrong_at (text ++ b ∷ []) ≡ not (hello_allows (length text) b)
-wrong-next text b =
-    let long : length (text ++ b ∷ []) ≡ length text + 1 = length-append text (b ∷ []) in
-    let place : length (text ++ b ∷ []) - 1 ≡ length text = omega (arith, long) in
-    ap (λ n. not (hello_allows (length (take n (text ++ b ∷ []))) (slice_index (text ++ b ∷ []) n))) place
-    ∙ ap (λ t. not (hello_allows (length t) (slice_index (text ++ b ∷ []) (length text)))) (take-append-le (length text) text (b ∷ []) (omega arith) ∙ take_all (length text) text (omega arith))
-    ∙ ap (λ x. not (hello_allows (length text) x)) (get_or_at text b [] 0 (length text) refl)
 
 form-next : (text : List ℕ) (b : ℕ) (h : Bool) (bytes : List ℕ) → nat_lt (length text) 4 ≡ h → last_command (text ++ b ∷ []) ≡ bytes
     → leaves_form built_operator (text ++ b ∷ []) ≡ form_by false h (not (hello_allows (length text) b)) (bad_kind bytes) (bad_length bytes)

@@ -9,6 +9,8 @@
 mod collected;
 mod obeyed;
 mod operator;
+#[cfg(test)]
+mod tests;
 
 pub use obeyed::Obeyed;
 pub use operator::Operator;

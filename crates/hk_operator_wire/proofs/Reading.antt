@@ -40,7 +40,8 @@ met_by limit n wrong bytes =
     ∷ ((length bytes == 5) && not (command_length_fits (slice_index bytes 0) (from_be_bytes w32 (drop 1 bytes))), BadLength (n - 1 + 1 - 4))
     ∷ (has_bad_format bytes, BadFormat (n - 1)) ∷ [])
 
-abbrev wrong_at : List ℕ → Bool
+-- the last byte isn't the hello's
+abbrev pub wrong_at : List ℕ → Bool
 wrong_at text = not (hello_allows (length (take (length text - 1) text)) (slice_index text (length text - 1)))
 
 met_is : (limit : ℕ) (text : List ℕ) → operator_met limit text ≡ met_by limit (length text) (wrong_at text) (last_command text)
@@ -50,7 +51,7 @@ met_is limit text = refl
 last_at : (text : List ℕ) (b : ℕ) → slice_index (text ++ b ∷ []) (length text) ≡ b
 last_at text b = get_or_at text b [] 0 (length text) refl
 
-wrong-next : (text : List ℕ) (b : ℕ) → wrong_at (text ++ b ∷ []) ≡ not (hello_allows (length text) b)
+pub wrong-next : (text : List ℕ) (b : ℕ) → wrong_at (text ++ b ∷ []) ≡ not (hello_allows (length text) b)
 wrong-next text b =
     let long : length (text ++ b ∷ []) ≡ length text + 1 = length-append text (b ∷ []) in
     let place : length (text ++ b ∷ []) - 1 ≡ length text = omega (arith, long) in

@@ -1,10 +1,11 @@
 -- A wire and the text that it has taken.
-use Rattle.std.specs.Prelude.{◌≡◌, ℕ, List, length, Option, None}
+use Rattle.std.specs.Prelude.{◌≡◌, ℕ, List, Option, None}
 use Rattle.hk_base.specs.declared.plain.WireFault.{WireFault}
 use Rattle.hk_operator_wire.specs.declared.reader.OpReader.{OpReader}
 use Rattle.hk_operator_wire.specs.declared.wire.OpWire.{OpWire}
 use Rattle.hk_station_wire.specs.Held.{IsLast, count_of}
-use Rattle.hk_spec_streams.specs.Operator.{operator_fault, operator_seen}
+use Rattle.hk_station_wire.specs.Kept.{Keeps}
+use Rattle.hk_spec_streams.specs.Operator.{operator_met}
 use Rattle.hk_operator_wire.specs.Items.{last_command}
 use Rattle.hk_operator_wire.specs.Heads.{Ends}
 
@@ -25,8 +26,7 @@ limit_of wire = wire.limit
 abbrev pub fault_met : OpWire → Option WireFault
 fault_met wire = wire.fault
 
--- The wire has taken this text: it has met the text's fault, and where there is none it stands at the text's end.
+-- The wire has taken this text: it keeps the text's fault, and where there is none it stands at the text's end.
 pub record HasTaken (wire : OpWire) (text : List ℕ) : Type 0 where
-  pub fault : wire.fault ≡ operator_fault wire.limit text
-  pub taken : wire.taken ≡ length (operator_seen wire.limit text)
+  pub keeps : Keeps (operator_met wire.limit) wire.fault wire.taken text
   pub stands : wire.fault ≡ None → StandsAfter wire.reader text

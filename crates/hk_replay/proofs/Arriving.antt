@@ -1,19 +1,19 @@
 -- What a byte of the input does to the scene and to the form, by what the reader tells of it.
-use Rattle.std.proofs.Common.{◌≡◌, ℕ, zero, suc, ◌+◌, ◌-◌, ◌<◌, ◌≤◌, List, [], ◌∷◌, ◌++◌, length, take, drop, refl, sym, ◌∙◌, ap, arith, length-append, Bool, true, false, inl, inr, Option, Some, None, cond, fold}
+use Rattle.std.proofs.Common.{◌≡◌, ℕ, suc, ◌+◌, ◌-◌, List, [], ◌∷◌, ◌++◌, length, refl, sym, ◌∙◌, ap, arith, length-append, Bool, true, false, inl, inr, Option, Some, None, cond, fold}
 use Rattle.std.specs.Prelude.{◌==◌, ◌||◌, ◌&&◌, not, nat_lt, nat_le, slice_get, slice_index, if◌then◌else◌}
-use Rattle.std.specs.Option.{option_map_or, option_or}
+use Rattle.std.specs.Option.{option_map_or}
 use Rattle.std.specs.List.{list_any}
 use Rattle.std.proofs.lemmas.Bool.Decides.{leb_tells, eqb_tells}
 use Rattle.hk_base.specs.declared.plain.Trouble.{Trouble}
 use Rattle.hk_base.specs.declared.plain.Trouble.TheVariants.{BadRecord, TooLong, NotBuilt}
-use Rattle.hk_spec_streams.specs.Pieces.{completed, first_that_holds, last_bytes}
-use Rattle.hk_spec_streams.specs.Records.{STATION, OPERATOR, Arrival, ForStation, ForOperator, arrivals, arrival_after, arrival_in, head_size, records, input_met, open_bytes}
+use Rattle.hk_spec_streams.specs.Pieces.{completed, last_bytes}
+use Rattle.hk_spec_streams.specs.Records.{STATION, OPERATOR, Arrival, ForStation, ForOperator, arrivals, arrival_after, arrival_in, head_size, records, open_bytes}
 use Rattle.hk_spec_streams.proofs.Completing.{before_last, completed-append}
 use Rattle.hk_spec_streams.proofs.GrowingRecords.{last_record-append, arrivals-append}
 use Rattle.hk_spec_runs.specs.Desk.{Rules}
-use Rattle.hk_spec_runs.specs.Replay.{Scene, arrived}
+use Rattle.hk_spec_runs.specs.Replay.{arrived}
 use Rattle.hk_spec_runs.specs.Built.{built_met, scene_after, leaves_at}
-use Rattle.hk_records.specs.Part.{arrived as told_arrival, has_bad_head, told}
+use Rattle.hk_records.specs.Part.{has_bad_head, told}
 use Rattle.hk_records.specs.Reader.{came_at}
 use Rattle.hk_records.specs.declared.reader.Came.{Came}
 use Rattle.hk_records.specs.declared.reader.Came.TheVariants as came

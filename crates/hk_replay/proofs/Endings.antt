@@ -1,10 +1,9 @@
 -- How a run ends, as what its whole input says.
-use Rattle.std.proofs.Common.{◌≡◌, ℕ, List, [], ◌∷◌, ◌++◌, length, refl, sym, ◌∙◌, ap, subst, append_assoc, append-nil, Bool, true, false, Option, Some, None, option_map, cond, fold, inl, inr}
+use Rattle.std.proofs.Common.{◌≡◌, ℕ, List, [], ◌++◌, length, refl, sym, ◌∙◌, ap, subst, append_assoc, append-nil, Bool, true, false, Option, Some, None, option_map, cond, fold, inl, inr}
 use Rattle.std.specs.Prelude.{if◌then◌else◌}
 use Rattle.std.specs.Option.{option_or}
 use Rattle.hk_base.specs.Devices.{Took, Wrote, IsNothing}
 use Rattle.hk_base.proofs.Taking.{Wrote-append}
-use Rattle.hk_base.specs.declared.plain.Trouble.{Trouble}
 use Rattle.hk_base.specs.declared.plain.Trouble.TheVariants.{NotBuilt, ReadFault}
 use Rattle.std.specs.Prelude.{flat_map}
 use Rattle.hk_spec_lines.specs.Lines.{printed_text, trouble_line}
@@ -16,11 +15,11 @@ use Rattle.hk_spec_runs.specs.Replay.{Scene, scene_of, summary, replay, arrived,
 use Rattle.hk_spec_runs.specs.Outcome.{Trades, IsWhole, IsStopped, IsUnread, IsUnwritten, has_ended}
 use Rattle.hk_spec_runs.specs.Built.{built_task, built_met, built_fault, built_wrong, built_text, printed_for, scene_after, may_end}
 use Rattle.hk_report.specs.Fronts.{WroteFront}
-use Rattle.hk_replay.specs.Playing.{HasPlayed, HasLeft, HasTorn}
+use Rattle.hk_replay.specs.Playing.{HasPlayed, HasLeft}
 use Rattle.hk_replay.specs.Holding.{Plays}
 use Rattle.hk_replay.specs.declared.run.Run.{Run}
 use Rattle.hk_replay.proofs.Holding.{seen_of_played, ends_of_played}
-use Rattle.hk_replay.proofs.Form.{seen_whole, no_first}
+use Rattle.hk_replay.proofs.Form.{seen_whole}
 
 module _ (rules : Rules) (run : Run) (b o : List ℕ) (rest : Option (List ℕ)) where
   scene_is : Plays rules run b → scene_of rules b [] ≡ scene_after rules [] b

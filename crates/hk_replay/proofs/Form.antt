@@ -1,25 +1,22 @@
 -- The built form, byte after byte.
-use Rattle.std.proofs.Common.{◌≡◌, ℕ, zero, suc, ◌+◌, ◌-◌, ◌<◌, ◌≤◌, List, [], ◌∷◌, ◌++◌, length, take, drop, refl, sym, ◌∙◌, ap, arith, length-append, append_assoc, append-nil, Bool, true, false, inl, inr, Option, Some, None, option_map, cond, fold, map}
-use Rattle.std.specs.Prelude.{◌==◌, ◌||◌, ◌&&◌, not, nat_lt, slice_get, slice_index, flat_map, if◌then◌else◌}
+use Rattle.std.proofs.Common.{◌≡◌, ℕ, ◌+◌, List, [], ◌∷◌, ◌++◌, length, take, refl, sym, ◌∙◌, ap, arith, append_assoc, append-nil, true, false, Option, Some, None, option_map, cond, fold}
+use Rattle.std.specs.Prelude.{slice_get, flat_map, if◌then◌else◌}
 use Rattle.std.specs.Option.{option_map_or, option_or, is_some}
-use Rattle.std.specs.List.{list_any, enumerate_from}
+use Rattle.std.specs.List.{enumerate_from}
 use Rattle.std.proofs.lemmas.List.Sums.{fold-append}
 use Rattle.std.proofs.lemmas.List.Concat.{flat_map-append}
 use Rattle.std.proofs.lemmas.List.{take-append-le, take_all}
-use Rattle.hk_base.specs.declared.plain.Trouble.{Trouble}
-use Rattle.hk_base.specs.declared.plain.Trouble.TheVariants.{BadRecord, TooLong, NotBuilt}
-use Rattle.hk_spec_streams.specs.Pieces.{completed, first_that_holds, last_bytes, first_met, fault_of, seen_of}
-use Rattle.hk_spec_streams.specs.Records.{STATION, OPERATOR, Arrival, ForStation, ForOperator, arrivals, arrival_after, records, input_met, open_bytes}
-use Rattle.hk_spec_streams.proofs.FirstFault.{first_met-append, first_met-more, fault_of-append, fault_of-none}
-use Rattle.hk_spec_streams.proofs.Completing.{before_last, completed-append}
-use Rattle.hk_spec_streams.proofs.GrowingRecords.{last_record-append, arrivals-append}
+use Rattle.hk_spec_streams.specs.Pieces.{completed, first_met, fault_of, seen_of}
+use Rattle.hk_spec_streams.specs.Records.{Arrival, ForStation, ForOperator, arrivals, arrival_after, open_bytes}
+use Rattle.hk_spec_streams.proofs.FirstFault.{first_met-append, first_met-more, fault_of-none}
+use Rattle.hk_spec_streams.proofs.GrowingRecords.{arrivals-append}
 use Rattle.hk_base.specs.declared.plain.What.{What}
 use Rattle.hk_base.specs.declared.plain.WireFault.{WireFault}
 use Rattle.hk_base.specs.declared.plain.OpEnd.TheVariants as op_ends
 use Rattle.hk_spec_streams.specs.Operator.{Command, commands, operator_met}
 use Rattle.hk_spec_lines.specs.Lines.{Printed, Replied, printed_text}
 use Rattle.hk_spec_runs.specs.Desk.{Rules}
-use Rattle.hk_spec_runs.specs.Replay.{Scene, opening, arrived, for_station, for_operator, obeyed, reply_to, heard, reports}
+use Rattle.hk_spec_runs.specs.Replay.{Scene, opening, arrived, for_station, obeyed, reply_to, heard, reports}
 use Rattle.hk_spec_runs.specs.Built.{built_met, built_fault, built_text, printed_for, scene_after}
 
 -- Bytes behind a text without a fault: the part of the whole that is seen begins with the text.

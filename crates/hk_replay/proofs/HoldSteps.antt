@@ -1,5 +1,5 @@
 -- What a byte of a stream does to what a run holds.
-use Rattle.std.proofs.Common.{◌≡◌, ℕ, ◌+◌, ◌≤◌, ◌<◌, List, [], ◌∷◌, ◌++◌, length, refl, sym, ◌∙◌, ap, subst, arith, length-append, Bool, true, false, Option, Some, None, cond, fold, map}
+use Rattle.std.proofs.Common.{◌≡◌, ℕ, ◌+◌, ◌≤◌, ◌<◌, List, [], ◌∷◌, ◌++◌, length, refl, sym, ◌∙◌, ap, subst, arith, length-append, true, false, Option, Some, None, cond, fold}
 use Rattle.std.specs.Prelude.{flat_map}
 use Rattle.std.specs.Option.{option_map_or, is_some}
 use Rattle.std.specs.List.{enumerate_from}
@@ -11,11 +11,11 @@ use Rattle.hk_base.specs.Devices.{Wrote}
 use Rattle.hk_base.specs.declared.plain.WireFault.{WireFault}
 use Rattle.hk_base.specs.declared.plain.End.TheVariants as ends
 use Rattle.hk_spec_streams.specs.Station.{station_met}
-use Rattle.hk_spec_streams.specs.Records.{ForStation, ForOperator}
+use Rattle.hk_spec_streams.specs.Records.{ForStation}
 use Rattle.hk_spec_matching.specs.Catalogue.{Songs, version}
 use Rattle.hk_spec_lines.specs.Lines.{Printed, printed_text}
 use Rattle.hk_spec_runs.specs.Desk.{Rules}
-use Rattle.hk_spec_runs.specs.Replay.{Listener, Clerk, Scene, arrived, for_operator, obeyed, heard, reports, report, report_in, new_blocks}
+use Rattle.hk_spec_runs.specs.Replay.{Listener, Clerk, Scene, arrived, for_operator, obeyed, heard, reports, report}
 use Rattle.hk_spec_runs.specs.Built.{leaves_at, leaves_station}
 use Rattle.hk_report.specs.Fronts.{WroteFront}
 use Rattle.hk_plain.specs.Plain.{Plain, shelf_of}

@@ -1,27 +1,21 @@
 -- What a run's parts say of its scene and its text.
-use Rattle.std.proofs.Common.{◌≡◌, ℕ, ◌+◌, ◌≤◌, ◌<◌, List, [], ◌∷◌, ◌++◌, length, refl, sym, ◌∙◌, ap, subst, arith, append_assoc, length-append, Bool, true, false, Option, Some, None, cond, fold, map}
-use Rattle.std.specs.Prelude.{◌&&◌, ◌||◌, ◌==◌, flat_map, slice_get, slice_set, if◌then◌else◌, is_some}
+use Rattle.std.proofs.Common.{◌≡◌, ℕ, ◌≤◌, List, [], ◌∷◌, ◌++◌, length, refl, sym, ◌∙◌, ap, arith, Bool, true, false, Option, Some, None, cond}
+use Rattle.std.specs.Prelude.{◌&&◌, ◌||◌, ◌==◌, slice_get, if◌then◌else◌, is_some}
 use Rattle.std.specs.Option.{option_or, option_map_or, is_none}
-use Rattle.std.specs.List.{list_all, enumerate_from}
+use Rattle.std.specs.List.{list_all}
 use Rattle.std.proofs.lemmas.Bool.{and_parts}
-use Rattle.hk_base.specs.declared.plain.WireFault.{WireFault}
 use Rattle.hk_base.specs.declared.plain.WireFault.TheVariants.{Cut}
 use Rattle.hk_base.specs.declared.plain.End.{End}
-use Rattle.hk_base.specs.declared.plain.End.TheVariants as ends
-use Rattle.hk_base.specs.declared.plain.OpEnd.TheVariants as op_ends
-use Rattle.hk_spec_streams.specs.Pieces.{completed}
 use Rattle.hk_spec_streams.specs.Grammar.{ends_at_start}
-use Rattle.hk_spec_streams.specs.Station.{station_grammar, station_wrong, station_met, station_fault}
-use Rattle.hk_spec_streams.specs.Operator.{Command, operator_grammar, operator_wrong, operator_met, operator_fault, commands}
-use Rattle.hk_spec_streams.specs.Records.{ForStation, ForOperator, input_fault, open_record}
-use Rattle.hk_spec_matching.specs.Catalogue.{version}
-use Rattle.hk_spec_lines.specs.Lines.{Printed, printed_text}
+use Rattle.hk_spec_streams.specs.Station.{station_grammar, station_wrong, station_fault}
+use Rattle.hk_spec_streams.specs.Operator.{operator_grammar, operator_wrong, operator_fault}
+use Rattle.hk_spec_streams.specs.Records.{ForStation, input_fault}
 use Rattle.hk_spec_runs.specs.Desk.{Rules}
-use Rattle.hk_spec_runs.specs.Replay.{Listener, Scene, arrived, for_station, for_operator, heard, obeyed, reports, report, report_in, new_blocks}
+use Rattle.hk_spec_runs.specs.Replay.{Listener, Scene, arrived, for_station, heard, reports}
 use Rattle.hk_spec_runs.specs.Outcome.{has_ended}
 use Rattle.hk_spec_runs.specs.Built.{may_end, scene_after, leaves_at, leaves_station}
-use Rattle.hk_records.specs.Reader.{HasRead, limit_of, stations_of}
-use Rattle.hk_replay.specs.Holding.{Holds, Plays}
+use Rattle.hk_records.specs.Reader.{stations_of}
+use Rattle.hk_replay.specs.Holding.{Plays}
 use Rattle.hk_replay.specs.declared.run.Run.{Run}
 
 pub seen_of_played : (rules : Rules) (run : Run) (b : List ℕ) → Plays rules run b → input_fault rules.stations rules.bytes b ≡ None

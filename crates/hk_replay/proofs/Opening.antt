@@ -1,13 +1,13 @@
 -- A run before its first byte, with all options at their defaults.
-use Rattle.std.proofs.Common.{◌≡◌, ℕ, ◌≤◌, List, [], ◌∷◌, length, refl, sym, ◌∙◌, ap, subst, arith, true, false, cond, Some, None}
+use Rattle.std.proofs.Common.{◌≡◌, List, [], ◌∷◌, refl, sym, ◌∙◌, ap, subst, arith, true, false, cond, Some, None}
 use Rattle.std.specs.Option.{IfSome}
 use Rattle.std.specs.Prelude.{replicate, is_some, String, string_bytes, codes, bytes_eq}
 use Rattle.hk_spec_streams.specs.Pieces.{first_met, pieces_within}
 use Rattle.hk_spec_streams.specs.Records.{arrivals}
 use Rattle.hk_spec_matching.specs.Catalogue.{Limits}
 use Rattle.hk_spec_runs.specs.Desk.{Rules}
-use Rattle.hk_spec_runs.specs.Replay.{Listener, Scene, opening}
-use Rattle.hk_spec_runs.specs.Built.{built_fault, built_met, scene_after}
+use Rattle.hk_spec_runs.specs.Replay.{Scene, opening}
+use Rattle.hk_spec_runs.specs.Built.{built_fault, scene_after}
 use Rattle.hk_records.specs.Reader.{HasRead, limit_of, stations_of}
 use Rattle.hk_station.specs.Hearing.{IsHearing, number_of, unheard}
 use Rattle.hk_operator.specs.Obeying.{IsObeying, IsPlainRules}

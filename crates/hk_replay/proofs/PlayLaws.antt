@@ -1,13 +1,12 @@
 -- Steps of a run one after another, as what they read and write.
-use Rattle.std.proofs.Common.{◌≡◌, ℕ, ◌+◌, ◌<◌, ◌≤◌, List, [], ◌∷◌, ◌++◌, length, take, drop, get_or, refl, sym, ◌∙◌, ap, arith, append_assoc, append-nil, length-append, add-one, drop-cons, Option, Some, None, option_map}
+use Rattle.std.proofs.Common.{◌≡◌, ℕ, ◌+◌, ◌<◌, ◌≤◌, List, [], ◌∷◌, ◌++◌, length, take, drop, get_or, refl, sym, ◌∙◌, ap, arith, append_assoc, append-nil, add-one, drop-cons, Option, Some, None}
 use Rattle.std.proofs.lemmas.List.{take-append-drop, take_more, length-take-le}
 use Rattle.hk_base.specs.Devices.{Took, Wrote}
 use Rattle.hk_base.proofs.Taking.{Took-append, Wrote-append}
-use Rattle.hk_base.specs.declared.plain.Trouble.{Trouble}
 use Rattle.hk_base.specs.declared.plain.Trouble.TheVariants.{NotBuilt}
 use Rattle.hk_spec_streams.proofs.FirstFault.{fault_of-none}
 use Rattle.hk_spec_runs.specs.Desk.{Rules}
-use Rattle.hk_spec_runs.specs.Built.{built_met, built_fault, built_text, printed_for}
+use Rattle.hk_spec_runs.specs.Built.{built_met, built_fault, printed_for}
 use Rattle.hk_replay.specs.Playing.{Adds, AddsFront, StopsAt, IsTorn, HasLeft, HasTorn}
 use Rattle.hk_spec_streams.specs.Pieces.{pieces_within}
 use Rattle.hk_spec_streams.specs.Records.{arrivals}

@@ -1,5 +1,5 @@
 -- The end of an input: whether it may end, and its summary.
-use Rattle.std.proofs.Common.{◌≡◌, ℕ, ◌+◌, ◌<◌, List, [], ◌∷◌, ◌++◌, length, refl, sym, ◌∙◌, ap, subst, append_assoc, append-nil, length-append, arith, Bool, true, false, Option, Some, None, Result, Ok, Err, cond}
+use Rattle.std.proofs.Common.{◌≡◌, ℕ, ◌<◌, List, [], ◌++◌, length, refl, sym, ◌∙◌, ap, subst, append_assoc, append-nil, length-append, arith, Bool, true, Option, Some, None, Result, Ok, Err}
 use Rattle.std.specs.Prelude.{◌&&◌, ◌||◌, ◌==◌, unwrap_or, flat_map, is_ok}
 use Rattle.std.specs.Option.{option_map_or, option_or, is_none}
 use Rattle.std.specs.List.{list_all, enumerate_from}
@@ -14,7 +14,7 @@ use Rattle.hk_base.specs.declared.plain.OpEnd.TheVariants as op_ends
 use Rattle.hk_spec_streams.specs.Grammar.{ends_at_start}
 use Rattle.hk_spec_streams.specs.Station.{station_grammar, station_wrong}
 use Rattle.hk_spec_streams.specs.Operator.{operator_grammar, operator_wrong, commands}
-use Rattle.hk_spec_streams.specs.Records.{open_record, input_wrong, input_fault}
+use Rattle.hk_spec_streams.specs.Records.{open_record, input_wrong}
 use Rattle.hk_spec_streams.specs.Pieces.{Piece}
 use Rattle.hk_spec_streams.specs.Blocks.{blocks}
 use Rattle.hk_records.specs.Reader.{EndsWith, limit_of, stations_of}

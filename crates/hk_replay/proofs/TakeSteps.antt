@@ -1,17 +1,14 @@
 -- What a byte of the input does to what a run has played.
-use Rattle.std.proofs.Common.{◌≡◌, ℕ, zero, suc, ◌+◌, ◌≤◌, ◌<◌, List, [], ◌∷◌, ◌++◌, length, refl, sym, ◌∙◌, ap, subst, arith, append-nil, length-append, Bool, true, false, Option, Some, None, cond, fold}
+use Rattle.std.proofs.Common.{◌≡◌, ℕ, ◌+◌, ◌<◌, List, [], ◌∷◌, ◌++◌, length, sym, ◌∙◌, ap, subst, arith, append-nil, length-append, Bool, Option, Some, None, cond}
 use Rattle.std.specs.Prelude.{flat_map, if◌then◌else◌}
 use Rattle.std.proofs.lemmas.List.Concat.{flat_map-append}
-use Rattle.hk_base.specs.Devices.{Wrote}
-use Rattle.hk_base.specs.declared.plain.Trouble.{Trouble}
 use Rattle.hk_base.specs.declared.plain.Trouble.TheVariants.{NotBuilt}
-use Rattle.hk_spec_streams.specs.Records.{Arrival, ForStation, ForOperator}
+use Rattle.hk_spec_streams.specs.Records.{ForStation, ForOperator}
 use Rattle.hk_spec_streams.proofs.FirstFault.{fault_of-none}
 use Rattle.hk_spec_lines.specs.Lines.{Printed, printed_text}
 use Rattle.hk_spec_runs.specs.Desk.{Rules}
 use Rattle.hk_spec_runs.specs.Replay.{Scene, arrived}
 use Rattle.hk_spec_runs.specs.Built.{built_met, printed_for, scene_after, leaves_at}
-use Rattle.hk_records.specs.Part.{IsFor}
 use Rattle.hk_records.specs.Reader.{HasRead, came_at, limit_of, stations_of}
 use Rattle.hk_records.specs.declared.reader.Came.{Came}
 use Rattle.hk_records.specs.declared.reader.Came.TheVariants as came
@@ -23,7 +20,7 @@ use Rattle.hk_replay.specs.Holding.{Holds, Plays}
 use Rattle.hk_replay.specs.Playing.{Adds, AddsFront, AddsScene, AddsSceneFront}
 use Rattle.hk_replay.specs.declared.run.Run.{Run}
 use Rattle.hk_replay.proofs.PlayLaws.{Wrote-nothing}
-use Rattle.hk_replay.proofs.Arriving.{came_bad, came_head, came_station, came_operator}
+use Rattle.hk_replay.proofs.Arriving.{came_station, came_operator}
 
 pub is_zero : (n : ℕ) → n < 1 → n ≡ 0
 is_zero n h = omega (arith, h)

@@ -1,6 +1,5 @@
 -- What a run holds of a scene, and of a text.
 use Rattle.std.specs.Prelude.{◌≡◌, ℕ, ◌+◌, ◌≤◌, List, [], ◌∷◌, length, None}
-use Rattle.hk_spec_streams.specs.Records.{input_fault}
 use Rattle.hk_spec_runs.specs.Desk.{Rules}
 use Rattle.hk_spec_runs.specs.Replay.{Listener, Scene}
 use Rattle.hk_spec_runs.specs.Built.{built_fault, scene_after}

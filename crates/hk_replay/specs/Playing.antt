@@ -1,9 +1,8 @@
 -- What a run has played, and what a step of it writes.
-use Rattle.std.specs.Prelude.{◌≡◌, ℕ, ◌<◌, ◌⊎◌, List, [], ◌∷◌, ◌++◌, length, Option, Some, None, ⊤, true, false, flat_map}
+use Rattle.std.specs.Prelude.{◌≡◌, ℕ, ◌<◌, ◌⊎◌, List, [], ◌++◌, length, Option, Some, ⊤, true, false, flat_map}
 use Rattle.hk_base.specs.Devices.{Wrote}
 use Rattle.hk_base.specs.declared.plain.Trouble.TheVariants.{NotBuilt}
 use Rattle.hk_spec_runs.specs.Desk.{Rules}
-use Rattle.hk_spec_runs.specs.Outcome.{Trades}
 use Rattle.hk_spec_runs.specs.Built.{built_fault, built_text, may_end, printed_for, scene_after}
 use Rattle.hk_spec_runs.specs.Replay.{Scene, summary}
 use Rattle.hk_spec_lines.specs.Lines.{Printed, printed_text, trouble_line}

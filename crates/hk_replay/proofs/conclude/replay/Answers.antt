@@ -1,9 +1,6 @@
-use Rattle.std.proofs.Common.{◌≡◌, ◌++◌, refl, inl, inr, List, ℕ, ⊎_elim}
-use Rattle.hk_base.specs.declared.plain.Trouble.TheVariants.{NotBuilt, ReadFault}
-use Rattle.hk_spec_lines.specs.Lines.{trouble_line}
-use Rattle.hk_spec_runs.specs.Replay.{summary}
-use Rattle.hk_spec_runs.specs.Outcome.{IsWhole, IsStopped, IsUnread, IsUnwritten}
-use Rattle.hk_spec_runs.specs.Built.{built_task, scene_after}
+use Rattle.std.proofs.Common.{refl, inl, inr}
+use Rattle.hk_spec_runs.specs.Outcome.{IsWhole, IsStopped, IsUnread}
+use Rattle.hk_spec_runs.specs.Built.{built_task}
 use Rattle.hk_replay.proofs.Endings.{whole_end, early_end, left_form, unread, with_line, with_front, torn_text, torn_whole, torn_stop, torn_read, front_keeps}
 use Rattle.hk_replay.proofs.conclude.replay.Goals as goal
 

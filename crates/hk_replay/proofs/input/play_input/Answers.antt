@@ -42,9 +42,10 @@ loop-turn-preserved g c = record {
 
 pub returns-in-End-clause-end : goal.returns-in-End-clause-end
 returns-in-End-clause-end g c = λ is rules h.
-    let so_far = c.loop-turn.invariant.played rules h in
-    (rw c.in-End.ensures.end_stays c.in-End.ensures.end,
-    (so_far.0, so_far.1, rw c.in-End.ensures.end_stays so_far.2, so_far.3, so_far.4.0))
+    let so_far = c.loop-turn.invariant.played rules h in (
+      rw c.in-End.ensures.end_stays c.in-End.ensures.end,
+      (so_far.0, so_far.1, rw c.in-End.ensures.end_stays so_far.2, so_far.3, so_far.4.0),
+    )
 
 pub returns-in-Failed-clause-read_fault : goal.returns-in-Failed-clause-read_fault
 returns-in-Failed-clause-read_fault g c = λ is rules h.

@@ -56,6 +56,7 @@ returns-clause-all g c = λ is rules text h.
     let played = c.loop-byte.invariant.played rules text h in
     let over : length c.args.piece.now ≤ c.loop-byte.byte-index = omega arith in
     let all : take c.loop-byte.byte-index c.args.piece.now ≡ c.args.piece.now = take_all c.loop-byte.byte-index c.args.piece.now over in
-    let before : Option (List ℕ) = g.K.Sink.written c.args.out.now in
-    (subst (λ (t : List ℕ). Plays rules c.loop-byte.run (text ++ t)) all played.0,
-    subst (λ (t : List ℕ). Adds rules text (text ++ t) before (g.K.Sink.written c.loop-byte.out)) all played.1)
+    let before : Option (List ℕ) = g.K.Sink.written c.args.out.now in (
+      subst (λ (t : List ℕ). Plays rules c.loop-byte.run (text ++ t)) all played.0,
+      subst (λ (t : List ℕ). Adds rules text (text ++ t) before (g.K.Sink.written c.loop-byte.out)) all played.1,
+    )

@@ -1,4 +1,4 @@
-use Rattle.std.proofs.Common.{◌≡◌, [], sym, ◌∙◌, ap}
+use Rattle.std.proofs.Common.{[], sym, ◌∙◌, ap}
 use Rattle.hk_spec_runs.specs.Desk.{Rules}
 use Rattle.hk_spec_runs.specs.Built.{built_wrong}
 use Rattle.hk_replay.proofs.Opening.{asked_default, if_asked}

@@ -4,7 +4,6 @@ use Rattle.hk_operator_wire.proofs.wire.OpWire.new.Goals as goal
 
 pub returns-clause-nothing_taken : goal.returns-clause-nothing_taken
 returns-clause-nothing_taken c = record {
-  fault = sym (no_text c.args.limit);
-  taken = sym (nothing_seen c.args.limit);
+  keeps = record { fault_is = sym (no_text c.args.limit); taken_is = sym (nothing_seen c.args.limit) };
   stands = λ none. c.new.ensures.stands;
 }

@@ -1,8 +1,4 @@
-use Rattle.std.proofs.Common.{◌≡◌, ◌+◌, ◌<◌, length, refl, sym, ap, arith, Option, Some, None}
-use Rattle.hk_spec_runs.specs.Desk.{Rules}
-use Rattle.hk_spec_runs.specs.Replay.{Scene}
-use Rattle.hk_plain.specs.Plain.{Plain, shelf_of}
-use Rattle.hk_replay.specs.Holding.{Holds}
+use Rattle.std.proofs.Common.{refl}
 use Rattle.hk_replay.proofs.HoldSteps.{few_used, same_shelf, stays_built, adds_lines, adds_front, holds_heard}
 use Rattle.hk_replay.proofs.run.Run.hear.Goals as goal
 

@@ -1,6 +1,3 @@
-use Rattle.std.proofs.Common.{◌≡◌, ◌∙◌, refl, sym, subst, List, ℕ}
-use Rattle.hk_base.specs.Devices.{Wrote}
-use Rattle.hk_report.specs.Fronts.{WroteFront}
 use Rattle.hk_replay.proofs.Summing.{summary_is, station_line_is, operator_line_is, both_lines, first_torn, second_torn}
 use Rattle.hk_replay.proofs.run.Run.summarize.Goals as goal
 

@@ -1,4 +1,4 @@
-use Rattle.std.proofs.Common.{◌≡◌, ◌<◌, ◌+◌, ◌∷◌, ◌++◌, [], List, length, refl, sym, ◌∙◌, ap, arith, true, false, subst, ℕ}
+use Rattle.std.proofs.Common.{◌<◌, ◌+◌, [], length, refl, arith, true, false, subst, ℕ}
 use Rattle.hk_spec_runs.specs.Replay.{Scene, arrived}
 use Rattle.hk_spec_runs.specs.Built.{scene_after}
 use Rattle.hk_spec_streams.specs.Records.{ForStation, ForOperator}
