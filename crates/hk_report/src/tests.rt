@@ -79,14 +79,37 @@ fn a_report_line(rt: HostRuntime) -> Result<(), Fail> {
 }
 
 #[test]
+fn the_greatest_numbers(rt: HostRuntime) -> Result<(), Fail> {
+    let text =
+        b"S 255 B 18446744073709551615 G 18446744073709551615 W 18446744073709551615 V 4294967295: 4294967295@4294967295~4294967295\n";
+    let (head, items) = read_line(rt.alloc(), text)?;
+    let greatest = Match {
+        id: u32::MAX,
+        start: u32::MAX,
+        errors: u32::MAX,
+    };
+    assert_eq!(rt; (head.station, head.version), (u8::MAX, u32::MAX));
+    assert_eq!(rt;
+        (head.block, head.segment, head.first),
+        (u64::MAX, u64::MAX, u64::MAX)
+    );
+    assert_eq!(rt; items.len(), 1);
+    assert_eq!(rt; items[0], greatest);
+    Ok(())
+}
+
+#[test]
 fn other_texts(rt: HostRuntime) {
-    let texts: [(&[u8], usize); 8] = [
+    let texts: [(&[u8], usize); 11] = [
         (b"", 0),
         (b"S 00", 3),
         (b"S 256", 4),
         (b"S 0 B 18446744073709551616", 25),
         (b"S 0 B 0 G 0 W 0 V 1: 7@0~0", 26),
         (b"S 0 B 0 G 0 W 0 V 1: 7@0~0 \n", 27),
+        (b"S 0 B 0 G 0 W 0 V 4294967296", 27),
+        (b"S 0  B 0 G 0 W 0 V 1: none\n", 4),
+        (b"S 0 B 0 G 0 W 0 V 1: none 7@0~0\n", 25),
         (b"S 0 B 0 G 0 W 0 V 1: nono", 24),
         (b"S 0 B 0 G 0 W 0 V 1: none\nS", 26),
     ];

@@ -62,8 +62,12 @@ fn sound(rt: HostRuntime) {
 #[test]
 fn faults(rt: HostRuntime) {
     assert_eq!(rt;
-        last_item(100, b"HKS2"),
+        last_item(100, b"HKS9"),
         Item::Fault(WireFault::BadHello(3))
+    );
+    assert_eq!(rt;
+        last_item(100, b"HKS1\x03"),
+        Item::Fault(WireFault::BadHello(4))
     );
     assert_eq!(rt;
         last_item(100, b"HKS1\0\x02"),
@@ -94,4 +98,16 @@ fn endings(rt: HostRuntime) {
     assert_eq!(rt; ending(b"HKS1\0\x01\x01\0\0"), Ok(()));
     assert_eq!(rt; ending(b"HKS1\0\x01\x01\0"), Err(WireFault::Cut(8)));
     assert_eq!(rt; ending(b"HKS1\0\x01\x09\0"), Err(WireFault::BadKind(6)));
+}
+
+#[test]
+fn a_stream_cut_at_each_place(rt: HostRuntime) {
+    let stream = b"HKS1\0\x01\x01\0\x08\0\0\0\x05\0\0\0\x03\x03\0\0";
+    for count in 0..=stream.len() {
+        let expected = match count {
+            6 | 17 | 20 => Ok(()),
+            _ => Err(WireFault::Cut(count as u64)),
+        };
+        assert_eq!(rt; ending(&stream[..count]), expected, "{count}");
+    }
 }
