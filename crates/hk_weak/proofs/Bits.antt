@@ -14,9 +14,9 @@ pub bool_byte-cond : (bit : Bool) → bool_byte bit ≡ cond bit 1 0
 bool_byte-cond false = refl
 bool_byte-cond true = refl
 
-pub bit-le : (bit : Bool) → cond bit 1 0 ≤ 1
-bit-le false = omega arith
-bit-le true = omega arith
+pub bool_byte-le : (bit : Bool) → bool_byte bit ≤ 1
+bool_byte-le false = omega arith
+bool_byte-le true = omega arith
 
 number_of_bits-mask_l : (bits : List Bool) → number_of_bits bits ≡ mask_l bits
 unfolding number_of_bits

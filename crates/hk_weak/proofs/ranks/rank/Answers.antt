@@ -3,7 +3,7 @@ use Rattle.std.proofs.lemmas.List.{take_all}
 use Rattle.std.proofs.lemmas.List.FromFn.{length-enumerate_from}
 use Rattle.std.specs.List.{enumerate_from, count_by}
 use Rattle.hk_spec_sound.specs.Prints.{comes_before}
-use Rattle.hk_weak.proofs.Bits.{bool_byte-cond, bit-le}
+use Rattle.hk_weak.proofs.Bits.{bool_byte-cond, bool_byte-le}
 use Rattle.hk_weak.proofs.WeakBits.{rank_of-more}
 use Rattle.hk_weak.proofs.ranks.rank.Goals as goal
 
@@ -12,7 +12,7 @@ loop-other-preserved c =
     let one = bool_byte-cond c.comes_before.result in
     let counted = c.from-rank.ensures ∙ one ∙ ap (λ b. cond b 1 0) c.comes_before.ensures in
     let more = rank_of-more (c.args.m, get_or c.args.d.now c.args.m (pos 0)) c.args.d.now c.loop-other.other (omega arith) in
-    record { counted = cc; few = omega (arith, bit-le c.comes_before.result) }
+    record { counted = cc; few = omega (arith, bool_byte-le c.comes_before.result) }
 
 pub returns : goal.returns
 returns c =

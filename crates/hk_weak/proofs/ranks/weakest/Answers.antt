@@ -1,6 +1,6 @@
 use Rattle.std.proofs.Common.{◌≡◌, ◌∙◌, ◌-◌, sym, ap, false, cond, nat_lt, arith, drop, length}
 use Rattle.hk_spec_sound.specs.Numbers.{number_of_bits}
-use Rattle.hk_weak.proofs.Bits.{bool_byte-cond, bit-le, number_of_bits-drop, number_of_bits-none, number_of_bits-lt}
+use Rattle.hk_weak.proofs.Bits.{bool_byte-cond, bool_byte-le, number_of_bits-drop, number_of_bits-none, number_of_bits-lt}
 use Rattle.hk_weak.proofs.WeakBits.{weak_bits, mask_of-weak_bits, length-weak_bits, get_or-weak_bits}
 use Rattle.hk_weak.proofs.ranks.weakest.Goals as goal
 
@@ -16,9 +16,8 @@ overflow_mul-mask c =
 pub overflow_add-mask : goal.overflow_add-mask
 overflow_add-mask c =
     let bits = weak_bits c.args.k c.args.d.now in
-    let bit = nat_lt c.rank.result c.args.k in
     let all : length bits ≡ 32 = omega (arith, length-weak_bits c.args.k c.args.d.now) in
-    omega (arith, number_of_bits-lt bits c.loop-m.m all (omega arith), bool_byte-cond bit, bit-le bit)
+    omega (arith, number_of_bits-lt bits c.loop-m.m all (omega arith), bool_byte-le (nat_lt c.rank.result c.args.k))
 
 pub loop-m-preserved : goal.loop-m-preserved
 loop-m-preserved c =
