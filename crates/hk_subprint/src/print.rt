@@ -1,5 +1,5 @@
 // The signs and the weak bits.
-ghost use Rattle.std.specs.Prelude.{◌≡◌};
+ghost use Rattle.std.specs.Prelude.{◌≡◌, ◌≤◌, count_ones};
 ghost use Rattle.hk_spec_sound.specs.Prints.{word_of, print_of};
 
 use hk_base::Print;
@@ -9,6 +9,7 @@ use hk_weak::weakest;
 /// whose differences are least in magnitude, ties to the lower bit.
 pub fn print_of(d: &[i128; 32], k: u32) -> Print
     ensures print { result ≡ print_of k d.now }
+    ensures few { count_ones result.mask ≤ k }
 {
     Print {
         word: word_of(d),

@@ -1,3 +1,4 @@
 pub mod Bits
-mod WeakBits
+mod FewBits
 mod Subsets
+mod WeakBits

@@ -7,6 +7,7 @@ ghost use Rattle.hk_spec_sound.specs.Prints.{comes_before, mask_of};
 /// of bit m. All bits where `k` is over 31.
 pub fn weakest(d: &[i128; 32], k: u32) -> u32
     ensures mask { result ≡ mask_of k d.now }
+    ensures few { count_ones result ≤ k }
 {
     let mut mask = 0;
     for m in (0..32).rev() {

@@ -1,6 +1,9 @@
-use Rattle.std.proofs.Common.{◌≡◌, ◌∙◌, ◌-◌, sym, ap, false, cond, nat_lt, arith, drop, length}
+use Rattle.std.proofs.Common.{◌≡◌, ◌∙◌, ◌-◌, ◌≤◌, ℕ, subst, sym, ap, false, cond, nat_lt, arith, drop, length}
+use Rattle.std.specs.Int.RustNames.{count_ones}
 use Rattle.hk_spec_sound.specs.Numbers.{number_of_bits}
+use Rattle.hk_spec_sound.specs.Prints.{mask_of}
 use Rattle.hk_weak.proofs.Bits.{bool_byte-cond, bool_byte-le, number_of_bits-drop, number_of_bits-none, number_of_bits-lt}
+use Rattle.hk_weak.proofs.FewBits.{count_ones-mask_of}
 use Rattle.hk_weak.proofs.WeakBits.{weak_bits, mask_of-weak_bits, length-weak_bits, get_or-weak_bits}
 use Rattle.hk_weak.proofs.ranks.weakest.Goals as goal
 
@@ -35,4 +38,7 @@ returns c =
     let ds = c.args.d.now in
     let flips = c.args.k in
     let all : c.loop-m.m ≡ 0 = omega arith in
-    record { mask = c.loop-m.invariant ∙ ap (λ m. number_of_bits (drop m (weak_bits flips ds))) all ∙ sym (mask_of-weak_bits flips ds) }
+    let is : c.loop-m.mask ≡ mask_of flips ds =
+    c.loop-m.invariant ∙ ap (λ m. number_of_bits (drop m (weak_bits flips ds))) all ∙ sym (mask_of-weak_bits flips ds) in
+    let P : ℕ → Type 0 = λ mask. count_ones mask ≤ flips in
+    record { mask = is; few = subst P (sym is) (count_ones-mask_of flips ds) }
