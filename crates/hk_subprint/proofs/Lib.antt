@@ -1,0 +1,2 @@
+mod EachDifference
+mod Signs

@@ -1,0 +1,4 @@
+pub mod Bits
+mod FewBits
+mod Subsets
+mod WeakBits
