@@ -61,6 +61,16 @@ C, S = circle()
 W = [(32768 - c) // 2 for c in C]
 
 
+def frames_of(ys):
+    """The frames of 2048 samples, a new one each 64 samples."""
+    return [ys[i : i + SAMPLES] for i in range(0, len(ys) - SAMPLES + 1, 64)]
+
+
+def windowed(frame):
+    """A frame's samples, each weighted by the window at its place."""
+    return [(y * w + 2**14) // 2**15 for y, w in zip(frame, W)]
+
+
 def transform(xs):
     """The transform of a list of pairs, by its items at even and at odd places."""
     n = len(xs)
@@ -131,6 +141,9 @@ def main():
         print(f"  {name}: digest {digest(table)}")
     for k in (0, 1, 2, 3, 100, 170, 255, 256, 257, 341, 511, 512, 513, 777, 1024, 1025, 1536, 1537, 1999, 2047):
         print(f"  ({k}, {C[k]}, {S[k]}, {W[k]}),")
+    print("frames of 2303 pseudo-random samples")
+    fs = frames_of(draws(7, 2303, 16))
+    print(f"  {len(fs)} frames, digest {digest([y for f in fs for y in windowed(f)])}, first {windowed(fs[0])[512:515]}")
     print("transform")
     frames = [(f"impulse at {place}", impulse(place)) for place in (0, 1, 777, 2047)]
     frames.append(("square", real([32767 if k // 4 % 2 == 0 else -32768 for k in range(SAMPLES)])))

@@ -6,7 +6,7 @@ use Rattle.std.proofs.lemmas.List.{take_more, length-map, get_or-map}
 use Rattle.std.proofs.lemmas.Nat.{mul-le, div_below}
 use Rattle.std.proofs.lemmas.Slice.Zip.{length-zip, get_or-zip}
 use Rattle.hk_spec_sound.specs.Numbers.{floor_div, total}
-use Rattle.hk_decimate.specs.Line.{IsSample}
+use Rattle.hk_spec_sound.specs.Ranges.{IsSample}
 
 total-push : (zs : List ℤ) (z : ℤ) → total (zs ++ z ∷ []) ≡ total zs +ℤ z
 total-push [] z = omega (arith, ints)

@@ -1,5 +1,5 @@
 -- A decimator, as contracts see it.
-use Rattle.std.specs.Prelude.{◌≡◌, ℕ, ◌-◌, ◌*◌, ℤ, pos, negsuc, ◌≤ℤ◌, List}
+use Rattle.std.specs.Prelude.{◌≡◌, ℕ, ◌-◌, ◌*◌, ℤ, List}
 use Rattle.hk_spec_sound.specs.Windows.{begun}
 
 -- by which factor it decimates, and the samples of the mean that has begun
@@ -10,7 +10,3 @@ pub record Line : Type 0 where
 -- The decimator has taken these samples since its last reset. It keeps those of the mean that has begun.
 abbrev pub HasTaken : Line → List ℤ → Type 0
 HasTaken line samples = line.window ≡ begun (2 * line.factor - 1) line.factor samples
-
--- a number of 16 bits
-abbrev pub IsSample : ℤ → Type 0
-IsSample x = (negsuc 32767 ≤ℤ x) × (x ≤ℤ pos 32767)

@@ -2,7 +2,8 @@
 ghost use Rattle.std.specs.Prelude.{◌≡◌, ◌≤◌, ◌++◌, [], ◌∷◌, ℤ, List, negsuc, pos, ◌≤ℤ◌, IfSome};
 ghost use Rattle.std.specs.Option.{option_to_list};
 ghost use Rattle.hk_spec_sound.specs.Samples.{decimated};
-ghost use Rattle.hk_decimate.specs.Line.{HasTaken, IsSample};
+ghost use Rattle.hk_spec_sound.specs.Ranges.{IsSample};
+ghost use Rattle.hk_decimate.specs.Line.{HasTaken};
 
 use crate::mean::weighted_mean;
 use std::marker::Model;
@@ -18,7 +19,8 @@ pub struct Decimator {
 impl Model for Decimator {
     ghost use Rattle.std.specs.Prelude.{◌≤◌, ◌<◌, ◌+◌, ◌*◌, take};
     ghost use Rattle.std.specs.List.{All};
-    ghost use Rattle.hk_decimate.specs.Line.{Line, IsSample};
+    ghost use Rattle.hk_spec_sound.specs.Ranges.{IsSample};
+    ghost use Rattle.hk_decimate.specs.Line.{Line};
 
     ghost Value = { Line };
 

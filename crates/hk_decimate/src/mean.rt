@@ -2,8 +2,8 @@
 ghost use Rattle.std.specs.Prelude.{◌≡◌, ◌≤◌, ◌<◌, ◌+◌, ◌*◌, ◌/◌, neg_ℤ, pos, negsuc, ◌+ℤ◌, ◌*ℤ◌, ◌≤ℤ◌, length, slice_index};
 ghost use Rattle.std.specs.List.{All};
 ghost use Rattle.hk_spec_sound.specs.Numbers.{floor_div};
+ghost use Rattle.hk_spec_sound.specs.Ranges.{IsSample};
 ghost use Rattle.hk_spec_sound.specs.Samples.{weights, weighted_mean};
-ghost use Rattle.hk_decimate.specs.Line.{IsSample};
 
 /// The mean of 2 * factor - 1 samples weighted 1, 2, .., factor, .., 2, 1, rounded to the nearest number, a half
 /// upwards. The factor is at most 8.

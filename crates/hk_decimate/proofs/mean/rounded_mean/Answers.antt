@@ -1,6 +1,6 @@
 use Rattle.std.proofs.Common.{rules, ◌≡◌, ◌+ℤ◌, ◌/◌, pos, w32, FitsSigned, to_z, arith, sym, subst}
 use Rattle.std.proofs.lemmas.Int.{to_z-of_z, ints}
-use Rattle.hk_decimate.specs.Line.{IsSample}
+use Rattle.hk_spec_sound.specs.Ranges.{IsSample}
 use Rattle.hk_decimate.proofs.Sums.{mean_range}
 use Rattle.hk_decimate.proofs.mean.rounded_mean.Goals as goal
 

@@ -3,7 +3,8 @@ use Rattle.std.proofs.lemmas.List.{append-nil, take_more_set, length-take-le, le
 use Rattle.std.proofs.lemmas.List.Elements.{All-take, All-drop, All-set, All-append, All-same}
 use Rattle.std.proofs.lemmas.Int.{to_z-of_z}
 use Rattle.hk_spec_sound.specs.Samples.{decimated, weighted_mean}
-use Rattle.hk_decimate.specs.Line.{Line, HasTaken, IsSample}
+use Rattle.hk_spec_sound.specs.Ranges.{IsSample}
+use Rattle.hk_decimate.specs.Line.{Line, HasTaken}
 use Rattle.hk_decimate.proofs.Taking.{taken_whole, taken_part}
 use Rattle.hk_decimate.proofs.decimator.Decimator.push.Goals as goal
 
