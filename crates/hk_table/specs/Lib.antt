@@ -1,0 +1,3 @@
+pub mod Store
+pub mod Extents
+pub mod Inside
