@@ -4,18 +4,13 @@ use Rattle.std.specs.Prelude.{option_map, option_to_list}
 use Rattle.std.proofs.lemmas.List.{append-nil, map-append}
 use Rattle.hk_base.specs.declared.plain.Print.{Print}
 use Rattle.hk_spec_sound.specs.Windows.{windows, adjacent, last_of}
-use Rattle.hk_spec_sound.specs.Spectrum.{transform, energies}
-use Rattle.hk_spec_sound.specs.Prints.{Analysis, windowed, frame_energies, differences, print_of, prints_of_samples}
+use Rattle.hk_spec_sound.specs.Prints.{Analysis, energies_of, frame_energies, differences, print_of, prints_of_samples}
 
 -- an item more stands beside the one that was last
 pub adjacent-append : {A : Type 0} (xs : List A) (x : A) → adjacent (xs ++ x ∷ []) ≡ adjacent xs ++ option_to_list (option_map (λ w. (w, x)) (last_of xs))
 adjacent-append [] x = refl
 adjacent-append (w ∷ []) x = refl
 adjacent-append (v ∷ w ∷ xs) x = ap (λ ps. (v, w) ∷ ps) (adjacent-append (w ∷ xs) x)
-
--- the energies of one frame
-abbrev pub energies_of : Analysis → List ℤ → List ℕ
-energies_of a frame = energies a.edges (transform a.points a.stages (windowed a.points frame))
 
 pub frame_energies-more : (a : Analysis) (samples longer : List ℤ) (frames : List (List ℤ))
     → windows (2 ^ a.stages) a.step longer ≡ windows (2 ^ a.stages) a.step samples ++ frames
