@@ -20,7 +20,7 @@ pub overflow_add-mask : goal.overflow_add-mask
 overflow_add-mask c =
     let bits = weak_bits c.args.k c.args.d.now in
     let all : length bits ≡ 32 = omega (arith, length-weak_bits c.args.k c.args.d.now) in
-    omega (arith, number_of_bits-lt bits c.loop-m.m all (omega arith), bool_byte-le (nat_lt c.rank.result c.args.k))
+    omega (arith, number_of_bits-lt bits c.loop-m.m all (omega arith), c.from.ensures, bool_byte-le)
 
 pub loop-m-preserved : goal.loop-m-preserved
 loop-m-preserved c =
