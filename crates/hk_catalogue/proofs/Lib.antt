@@ -1,0 +1,3 @@
+pub mod RollPlaces
+pub mod RollSongs
+pub mod RollFields

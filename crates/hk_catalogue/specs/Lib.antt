@@ -1,0 +1,4 @@
+pub mod Refusals
+pub mod Entries
+pub mod Register
+pub mod RollInside
