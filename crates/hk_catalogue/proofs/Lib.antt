@@ -1,0 +1,4 @@
+pub mod RollPlaces
+pub mod Shelving
+pub mod FreeSlots
+pub mod Kept

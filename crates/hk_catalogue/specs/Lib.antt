@@ -1,0 +1,5 @@
+pub mod Refusals
+pub mod Entries
+pub mod Register
+pub mod Shelves
+pub mod CatalogueInside

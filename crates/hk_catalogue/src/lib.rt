@@ -1,0 +1,16 @@
+//! The catalogue of songs, its edits, and what is known of them before they are done.
+//!
+//! A [`Catalogue`] keeps the songs of a version in a [`hk_table::SongStore`], and callers see the map from ids to words and the
+//! version. Absorbing an edit never fails: what can't be done changes nothing. A [`Shelf`] is where edits are checked and staged.
+//! After `new` a catalogue takes no memory.
+#![tactic(auto)]
+
+mod catalogue;
+mod edit;
+mod entry;
+mod refused;
+
+pub use catalogue::Catalogue;
+pub use edit::Edit;
+pub use hk_base::NoMemory;
+pub use refused::Refused;
