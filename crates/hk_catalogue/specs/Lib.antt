@@ -3,3 +3,4 @@ pub mod Entries
 pub mod Register
 pub mod Shelves
 pub mod CatalogueInside
+pub mod Shelf

@@ -1,7 +1,7 @@
 // The catalogue: a store of words, the ids of its songs with their slots, and the slots that are free.
 ghost use Rattle.std.specs.Prelude.{◌≡◌, ◌≤◌, ◌<◌, ◌^◌, ◌&&◌, not, true, false, length, vec_len, vec_capacity, IfOk, IsTrue, Some, is_some, slice_get};
 ghost use Rattle.std.specs.Option.{IfSome};
-ghost use Rattle.hk_spec_matching.specs.Catalogue.{Limits, has_song, has_room, with_song, without_song};
+ghost use Rattle.hk_spec_matching.specs.Catalogue.{Limits, has_song, has_room, with_song, without_song, positions_of};
 ghost use Rattle.hk_spec_matching.specs.Matching.{MOST_ERRORS};
 ghost use Rattle.hk_table.specs.Store.{song_at, spare};
 ghost use Rattle.hk_catalogue.specs.Register.{songs_after};
@@ -130,7 +130,8 @@ impl Catalogue {
 
     /// How many songs are there.
     pub fn count(&self) -> u32
-        ensures { result ≡ length (songs_of self.now) }
+        ensures count { result ≡ length (songs_of self.now) }
+        ensures words_fit { positions_of (songs_of self.now) ≤ self.now.store.positions }
     {
         self.index.len() as u32
     }

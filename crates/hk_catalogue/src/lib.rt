@@ -8,9 +8,13 @@
 mod catalogue;
 mod edit;
 mod entry;
+mod fault;
 mod refused;
+mod shelf;
 
 pub use catalogue::Catalogue;
 pub use edit::Edit;
+pub use fault::StageFault;
 pub use hk_base::NoMemory;
 pub use refused::Refused;
+pub use shelf::Shelf;
