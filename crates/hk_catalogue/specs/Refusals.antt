@@ -14,8 +14,8 @@ Lengths = List (ℕ × ℕ)
 abbrev pub lengths_of : Songs → Lengths
 lengths_of songs = map (λ entry. (entry.0, length entry.1.words)) songs
 
-abbrev pub has_id : Lengths → ℕ → Bool
-has_id lengths id = list_any (λ entry. entry.0 == id) lengths
+abbrev pub has_id : {A : Type 0} → List (ℕ × A) → ℕ → Bool
+has_id entries id = list_any (λ entry. entry.0 == id) entries
 
 abbrev pub words_in : Lengths → ℕ
 words_in lengths = sum_by (λ entry. entry.1) lengths

@@ -1,5 +1,5 @@
 // The roll: ids and lengths of the songs, by which edits are checked.
-ghost use Rattle.std.specs.Prelude.{◌≡◌, ℕ, true, length, filter, not, ◌==◌, option_map, IfOk, None, is_ok};
+ghost use Rattle.std.specs.Prelude.{◌≡◌, ℕ, true, length, filter, not, ◌==◌, option_map, IfOk, None, is_ok, OnOk, ◌+◌, ◌^◌, ◌<◌};
 ghost use Rattle.std.specs.Ordering.{nat_cmp};
 ghost use Rattle.std.specs.FinMap.{put};
 ghost use Rattle.hk_spec_streams.specs.Pieces.{first_that_holds};
@@ -86,12 +86,24 @@ impl Roll {
 
     /// Whether a further version may be published.
     pub fn check_seal(&self) -> Result<(), Refused>
-        ensures { result ≡ answered (first_that_holds (seal_tests self.now.limits self.now.version)) }
+        ensures refused { result ≡ answered (first_that_holds (seal_tests self.now.limits self.now.version)) }
+        ensures left { OnOk result (self.now.version + 1 < 2 ^ 32) }
     {
         if self.versions <= self.version {
             Err(Refused::VersionsFull(self.versions))
         } else {
             Ok(())
+        }
+    }
+
+    /// Whether an edit may be done: the check of its kind.
+    pub fn check(&self, edit: &Edit) -> Result<(), Refused>
+        ensures { result ≡ answered (refusal self.now edit.now) }
+    {
+        match edit {
+            Edit::Add(song) => self.check_add(song.id(), song.length() as u64),
+            Edit::Withdraw(id) => self.check_withdraw(*id),
+            Edit::Seal => self.check_seal(),
         }
     }
 
@@ -153,7 +165,7 @@ impl Roll {
         ensures { self.new ≡ record self.old { lengths = put nat_cmp id length self.old.lengths } }
     {
         let place = entry::place_of(self.entries.as_slice(), id);
-        match self.entries.insert(place, Entry { id, length }) {
+        match self.entries.insert(place, Entry { id, number: length }) {
             Ok(()) => {}
             Err(_) => unreachable!(),
         }
@@ -166,6 +178,6 @@ impl Roll {
     {
         let place = entry::place_of(self.entries.as_slice(), id);
         let gone = self.entries.remove(place);
-        self.words -= gone.length;
+        self.words -= gone.number;
     }
 }

@@ -13,7 +13,7 @@ pub invariant_of-self : goal.invariant_of-self
 invariant_of-self c =
     let inside : Inside = c.self.inside in
     let kept : IsKept inside = c.self.invariant in
-    let entry : Entry = record { id = c.args.id; length = c.args.length } in
+    let entry : Entry = record { id = c.args.id; number = c.args.length } in
     let place = is_place inside c.args.self.now c.as_slice.result.now c.args.id c.place_of-place.result c.self.view_is kept c.as_slice.ensures.value c.place_of-place.ensures.splits in
     let more : IsWith inside entry c.insert.new.self.items = is_with inside c.args.self.now entry c.place_of-place.result c.insert.new.self.items place c.requires c.in-Ok.ensures.items in
     record {
@@ -28,7 +28,7 @@ invariant_of-self c =
 pub returns : goal.returns
 returns c =
     let inside : Inside = c.self.inside in
-    let entry : Entry = record { id = c.args.id; length = c.args.length } in
+    let entry : Entry = record { id = c.args.id; number = c.args.length } in
     let place = is_place inside c.args.self.now c.as_slice.result.now c.args.id c.place_of-place.result c.self.view_is c.self.invariant c.as_slice.ensures.value c.place_of-place.ensures.splits in
     let more : IsWith inside entry c.insert.new.self.items = is_with inside c.args.self.now entry c.place_of-place.result c.insert.new.self.items place c.requires c.in-Ok.ensures.items in
     let with_lengths : Lengths → Register = λ lengths. record (as_register inside) { lengths = lengths } in

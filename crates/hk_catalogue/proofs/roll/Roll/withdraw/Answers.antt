@@ -39,5 +39,5 @@ returns c =
     let less : IsWithout inside c.args.id c.remove-gone.result c.remove-gone.new.self.items =
     is_without inside c.args.self.now c.args.id c.place_of-place.result c.remove-gone.result c.remove-gone.new.self.items place c.requires c.remove-gone.ensures.value c.remove-gone.ensures.items in
     let with_lengths : Lengths → Register = λ lengths. record (as_register inside) { lengths = lengths } in
-    let new : Register = as_register (record inside { entries = c.remove-gone.new.self; words = inside.words - c.remove-gone.result.length }) in
+    let new : Register = as_register (record inside { entries = c.remove-gone.new.self; words = inside.words - c.remove-gone.result.number }) in
     subst (λ (roll : Register). new ≡ record roll { lengths = filter (λ entry. not (entry.0 == c.args.id)) roll.lengths }) c.self.view_is (ap with_lengths less.lengths)
