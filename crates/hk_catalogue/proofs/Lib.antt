@@ -1,0 +1,6 @@
+pub mod RollPlaces
+pub mod RollSongs
+pub mod RollFields
+pub mod Shelving
+pub mod FreeSlots
+pub mod Kept

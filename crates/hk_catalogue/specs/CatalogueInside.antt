@@ -1,0 +1,35 @@
+-- What a catalogue keeps, and what is true of it.
+use Rattle.std.specs.Prelude.{◌≡◌, ◌≢◌, ℕ, ◌+◌, ◌≤◌, ◌<◌, ◌^◌, List, length, slice_index_or, None, Some, option_map, vec_len, vec_capacity}
+use Rattle.std.specs.List.{All}
+use Rattle.hk_spec_matching.specs.Catalogue.{positions_of}
+use Rattle.hk_table.specs.Store.{Store, song_at, spare}
+use Rattle.hk_catalogue.specs.Entries.{pairs_of, AreRising}
+use Rattle.hk_catalogue.specs.Shelves.{Shelves, songs_in}
+use Rattle.hk_catalogue.specs.declared.catalogue.Catalogue.TheInside.{Inside}
+
+abbrev pub as_shelves : Inside → Shelves
+as_shelves c = record { store = c.store; index = pairs_of c.index.items; version = c.version }
+
+-- the entry's slot has a song with its id
+abbrev pub IsHeld : Store → ℕ × ℕ → Type 0
+IsHeld store entry = option_map (λ track. track.id) (song_at store entry.1) ≡ Some entry.0
+
+pub record IsFree (store : Store) (slot : ℕ) : Type 0 where
+  pub there : slot < length store.slots
+  pub empty : song_at store slot ≡ None
+
+-- no number stands twice
+abbrev pub AreDistinct : List ℕ → Type 0
+AreDistinct xs = (i j : ℕ) → i ≢ j → i < length xs → j < length xs → slice_index_or xs i 0 ≢ slice_index_or xs j 0
+
+-- Ids rise, each has its song in a slot of its own, and each other slot is free and listed once.
+pub record IsKept (c : Inside) : Type 0 where
+  pub rising : AreRising (pairs_of c.index.items)
+  pub held : All (IsHeld c.store) (pairs_of c.index.items)
+  pub free : All (IsFree c.store) c.free.items
+  pub distinct : AreDistinct c.free.items
+  pub all_slots : vec_len c.index + vec_len c.free ≡ length c.store.slots
+  pub all_words : positions_of (songs_in c.store (pairs_of c.index.items)) + spare c.store ≡ c.store.positions
+  pub short : length c.store.slots < 2 ^ 32
+  pub room_index : length c.store.slots ≤ vec_capacity c.index
+  pub room_free : length c.store.slots ≤ vec_capacity c.free
