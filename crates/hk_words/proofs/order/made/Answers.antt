@@ -1,0 +1,22 @@
+use Rattle.std.proofs.Common.{◌∙◌, sym, ap, Some}
+use Rattle.hk_spec_runs.specs.Words.{Make}
+use Rattle.hk_words.specs.Options.{texts}
+use Rattle.hk_words.proofs.Pairs.{make_values}
+use Rattle.hk_words.proofs.Commands.{made-some, made-far, made-none}
+use Rattle.hk_words.proofs.order.made.Goals.{else-seed-le-MOST_SEED-via-then-seed-le-MOST_SEED+else-are_options, else-seed-le-MOST_SEED-via-else-seed-le-MOST_SEED}
+use Rattle.hk_words.proofs.order.made.Goals as goal
+
+pub run_rules-requires-clause-fits : goal.run_rules-requires-clause-fits
+run_rules-requires-clause-fits c = make_values (texts c.args.words.now) (sym c.are_options.ensures ∙ c.if-are_options.true)
+
+pub returns-then-are_options-clause-order : goal.returns-then-are_options-clause-order
+returns-then-are_options-clause-order c text is =
+    ap (λ rules. Some (Make c.args.seed rules)) c.run_rules.ensures.rules
+    ∙ made-some (texts c.args.words.now) text c.args.seed c.if-seed-le-MOST_SEED.true (sym c.are_options.ensures ∙ c.if-are_options.true) is
+
+pub returns-else-seed-le-MOST_SEED-clause-order : goal.returns-else-seed-le-MOST_SEED-clause-order
+returns-else-seed-le-MOST_SEED-clause-order c text is = elim c.else-seed-le-MOST_SEED.branch [
+  | else-seed-le-MOST_SEED-via-then-seed-le-MOST_SEED+else-are_options w ↦
+      made-none (texts c.args.words.now) text c.args.seed (sym w.are_options.ensures ∙ w.if-are_options.false) is
+  | else-seed-le-MOST_SEED-via-else-seed-le-MOST_SEED w ↦ made-far (texts c.args.words.now) text c.args.seed w.if-seed-le-MOST_SEED.false is
+]
