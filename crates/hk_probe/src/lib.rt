@@ -1,0 +1,13 @@
+//! Looks in a catalogue: where in its songs the last block of a ring is found.
+//!
+//! [`scan`] goes through every start of every song, by rising id, and leaves the matches in a [`hk_block::Scratch`]. [`Alone`]
+//! is a catalogue for one thread: a [`hk_catalogue::Shelf`] whose staged edits are seen from the next publish on, and a
+//! [`hk_block::Looker`] that answers the published version and never another. A look takes no memory.
+#![tactic(auto)]
+
+mod alone;
+mod comparison;
+mod full_scan;
+
+pub use alone::Alone;
+pub use full_scan::scan;
