@@ -1,0 +1,46 @@
+-- What a print adds to the blocks of a segment, as the ring tells it.
+use Rattle.std.proofs.Common.{◌≡◌, ℕ, ◌+◌, ◌*◌, List, [], ◌∷◌, ◌++◌, length, map, sym, ◌∙◌, ap, arith, true, false, cond}
+use Rattle.std.proofs.lemmas.List.{append-nil, map-append}
+use Rattle.std.specs.List.{enumerate_from}
+use Rattle.hk_base.specs.declared.plain.Print.{Print}
+use Rattle.hk_spec_sound.specs.Windows.{windows}
+use Rattle.hk_spec_streams.specs.Blocks.{Setting, Block, blocks_of_segment}
+use Rattle.hk_spec_streams.proofs.GrowingBlocks.{enumerate-append}
+use Rattle.hk_block.specs.Ring.{Ring, Takes, AddsBlock, PlacesBlock, BLOCK_SIZE, completes_block, first_word}
+use Rattle.hk_block.specs.Ring as rings
+use Rattle.hk_receiver.specs.Kept.{block_in}
+
+module _ (s : Setting) (n : ℕ) (old new : Ring) (p : Print) (prints : List Print) (size : s.block_size ≡ BLOCK_SIZE) (hop : old.hop ≡ s.hop)
+    (takes : Takes old p new) (adds : AddsBlock old p new) (places : PlacesBlock old p new) (has : rings.HasTaken old prints) where
+  abbrev block_of : ℕ × List Print → Block
+  block_of w = record { segment = n; first = s.hop * w.0; prints = w.1 }
+
+  abbrev before : List (List Print)
+  before = windows BLOCK_SIZE old.hop prints
+
+  windows_are : (ps : List Print) → windows s.block_size s.hop ps ≡ windows BLOCK_SIZE old.hop ps
+  windows_are ps = ap (λ m. windows m s.hop ps) size ∙ ap (λ m. windows BLOCK_SIZE m ps) (sym hop)
+
+  after_are : windows s.block_size s.hop (prints ++ p ∷ []) ≡ before ++ cond (completes_block new) (new.last ∷ []) []
+  after_are = windows_are (prints ++ p ∷ []) ∙ ap (λ m. windows BLOCK_SIZE m (prints ++ p ∷ [])) (sym takes.0) ∙ adds prints has
+
+  before_are : map block_of (enumerate_from 0 before) ≡ blocks_of_segment s n prints
+  before_are = ap (λ ws. map block_of (enumerate_from 0 ws)) (sym (windows_are prints))
+
+  pub adds_none : completes_block new ≡ false → blocks_of_segment s n (prints ++ p ∷ []) ≡ blocks_of_segment s n prints
+  adds_none is =
+      ap (λ ws. map block_of (enumerate_from 0 ws)) (after_are ∙ ap (λ c. before ++ cond c (new.last ∷ []) []) is ∙ append-nil before)
+      ∙ before_are
+
+  placed : completes_block new ≡ true → s.hop * (0 + length before) ≡ first_word new
+  placed is =
+      let count : 0 + length before ≡ length before = omega arith in
+      ap (λ m. s.hop * m) count ∙ ap (λ h. h * length before) (sym hop ∙ sym takes.0) ∙ sym (places prints has is)
+
+  pub adds_one : completes_block new ≡ true → blocks_of_segment s n (prints ++ p ∷ []) ≡ blocks_of_segment s n prints ++ block_in n new ∷ []
+  adds_one is =
+      ap (λ ws. map block_of (enumerate_from 0 ws)) (after_are ∙ ap (λ c. before ++ cond c (new.last ∷ []) []) is)
+      ∙ ap (map block_of) (enumerate-append 0 before (new.last ∷ []))
+      ∙ map-append block_of (enumerate_from 0 before) ((0 + length before, new.last) ∷ [])
+      ∙ ap (λ bs. bs ++ block_of (0 + length before, new.last) ∷ []) before_are
+      ∙ ap (λ m. blocks_of_segment s n prints ++ record { segment = n; first = m; prints = new.last } ∷ []) (placed is)
