@@ -7,6 +7,8 @@
 #![tactic(auto)]
 
 mod catalogue;
+#[cfg(test)]
+mod catalogue_tests;
 mod edit;
 mod entry;
 mod fault;

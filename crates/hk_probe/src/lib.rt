@@ -8,6 +8,8 @@
 mod alone;
 mod comparison;
 mod full_scan;
+#[cfg(test)]
+mod tests;
 
 pub use alone::Alone;
 pub use full_scan::scan;
