@@ -46,7 +46,7 @@ pub enum Order {
     /// Print sound as sub-fingerprints.
     Print(PrintRules),
     /// Make an input from a seed and replay it.
-    Make(u32, RunRules),
+    Make { seed: u32, rules: RunRules },
 }
 
 /// What the words behind the program's name ask for; None exactly where they are no command.
@@ -115,7 +115,10 @@ fn made(seed: u64, words: &[String]) -> Option<Order>
     ensures ranges { IfSome result OrderFits }
 {
     if seed <= MOST_SEED && are_options(words, &MAKE_CHOICES) {
-        Some(Order::Make(seed as u32, run_rules(words, &MADE_STATIONS)))
+        Some(Order::Make {
+            seed: seed as u32,
+            rules: run_rules(words, &MADE_STATIONS),
+        })
     } else {
         None
     }

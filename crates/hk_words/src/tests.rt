@@ -32,14 +32,14 @@ fn ordered(alloc: Global, line: &str) -> Result<Option<Order>, AllocError> {
 fn commands_have_their_defaults(rt: HostRuntime) -> Result<(), AllocError> {
     assert_eq!(rt; ordered(rt.alloc(), "replay")?, Some(Order::Replay(REPLAY)));
     assert_eq!(rt; ordered(rt.alloc(), "print")?, Some(Order::Print(PRINT)));
-    let made = RunRules {
-        stations: 4,
-        ..REPLAY
+    let made = Order::Make {
+        seed: 2147483647,
+        rules: RunRules {
+            stations: 4,
+            ..REPLAY
+        },
     };
-    assert_eq!(rt;
-        ordered(rt.alloc(), "make 2147483647")?,
-        Some(Order::Make(2147483647, made))
-    );
+    assert_eq!(rt; ordered(rt.alloc(), "make 2147483647")?, Some(made));
     Ok(())
 }
 
