@@ -1,0 +1,87 @@
+-- How an input ends, as what all of it says.
+use Rattle.std.proofs.Common.{◌≡◌, ℕ, List, [], ◌++◌, refl, sym, ◌∙◌, ap, subst, append_assoc, Bool, true, Option, Some, None, inl, inr}
+use Rattle.std.specs.Option.{option_or}
+use Rattle.hk_base.specs.Devices.{Took, Wrote, IsNothing}
+use Rattle.hk_base.proofs.Taking.{Wrote-append}
+use Rattle.hk_base.specs.declared.plain.Trouble.{Trouble}
+use Rattle.hk_base.specs.declared.plain.Trouble.TheVariants.{ReadFault}
+use Rattle.hk_spec_lines.specs.Lines.{trouble_line}
+use Rattle.hk_spec_streams.specs.Pieces.{fault_of, seen_of}
+use Rattle.hk_spec_runs.specs.Outcome.{Trades, IsWhole, IsStopped, IsUnread, IsUnwritten}
+use Rattle.hk_report.specs.Fronts.{WroteFront}
+use Rattle.hk_player.specs.Course.{Course, task_of_course}
+use Rattle.hk_player.specs.Pieces.{HasLeft}
+use Rattle.hk_player.proofs.Faults.{seen_whole}
+
+module _ (c : Course) (r b o : List ℕ) (rest : Option (List ℕ)) where
+  -- bytes without a fault are all seen
+  module _ (in_form : fault_of c.met b ≡ None) (is : o ≡ c.printed r b) where
+    seen : seen_of c.met b ≡ b
+    seen = seen_whole c.met b in_form
+
+    pub whole_end : (in_order : Bool) → IsNothing rest → c.ending b ≡ None → c.in_order r b ≡ in_order → IsWhole (task_of_course c) rest in_order b (o ++ c.finale r b)
+    whole_end in_order nothing may ordered = record {
+      to_the_end = λ reads. nothing;
+      unread = λ reads. cc;
+      refused = r;
+      right = ap (λ f. option_or f (c.ending b)) in_form ∙ may;
+      text = ap (λ t. t ++ c.finale r b) is ∙ ap (λ t. c.printed r t ++ c.finale r t) (sym seen);
+      ended = ap (c.in_order r) seen ∙ ordered;
+    }
+
+    pub wrong_end : (trouble : Trouble) → IsNothing rest → c.ending b ≡ Some trouble → IsStopped (task_of_course c) rest b (o ++ trouble_line trouble)
+    wrong_end trouble nothing wrong = record {
+      trouble = trouble;
+      refused = r;
+      first = ap (λ f. option_or f (c.ending b)) in_form ∙ wrong;
+      at_the_end = λ none. nothing;
+      text = ap (λ t. t ++ trouble_line trouble) (is ∙ ap (c.printed r) (sym seen));
+    }
+
+    pub unread : IsUnread (task_of_course c) b (o ++ trouble_line ReadFault)
+    unread = record {
+      reads = refl;
+      refused = r;
+      no_fault = in_form;
+      text = ap (λ t. t ++ trouble_line ReadFault) (is ∙ ap (c.printed r) (sym seen));
+    }
+
+  pub left : (trouble : Trouble) → fault_of c.met b ≡ Some trouble → o ≡ c.printed r (seen_of c.met b) → IsStopped (task_of_course c) rest b (o ++ trouble_line trouble)
+  left trouble met is = record {
+    trouble = trouble;
+    refused = r;
+    first = ap (λ f. option_or f (c.ending b)) met;
+    at_the_end = λ none. absurd (some_isnt (sym met ∙ none));
+    text = ap (λ t. t ++ trouble_line trouble) is;
+  }
+    where
+      some_isnt : Some trouble ≡ None → ⊥
+      some_isnt e = cc
+
+-- What a last line adds, whole or in front.
+module _ (b o line : List ℕ) (x y u v w : Option (List ℕ)) (took : Took b x y) (wrote : Wrote o u v) where
+  pub with_line : (P : List ℕ → List ℕ → Type 0) → Wrote line v w → P b (o ++ line) → Trades x y u w P
+  with_line P last holds = (b, o ++ line, took, Wrote-append o line u v w wrote last, holds)
+
+  pub with_front : (P Q : List ℕ → List ℕ → Type 0) → (front : WroteFront line v w) → P b (o ++ line)
+      → ((o' missing : List ℕ) → P b (o' ++ missing) → Q b o') → Trades x y u w Q
+  with_front P Q front holds so = (
+    b,
+    o ++ front.0,
+    took,
+    Wrote-append o front.0 u v w wrote front.4,
+    so (o ++ front.0) front.1 (subst (P b) (ap (λ t. o ++ t) front.2 ∙ sym (append_assoc o front.0 front.1)) holds),
+  )
+
+module _ (c : Course) (R : Type 0) (rest : Option (List ℕ)) (b o missing : List ℕ) where
+  pub torn_text : (r : List ℕ) → o ++ missing ≡ c.printed r (seen_of c.met b) → IsUnwritten (task_of_course c) R rest b o
+  torn_text r is = record { unread = λ reads. cc; more = missing; text = inl (r, is) }
+
+  pub torn_whole : (in_order : Bool) → IsWhole (task_of_course c) rest in_order b (o ++ missing) → IsUnwritten (task_of_course c) R rest b o
+  torn_whole in_order whole = record { unread = λ reads. cc; more = missing; text = inr (inl (in_order, whole)) }
+
+  pub torn_stop : IsStopped (task_of_course c) rest b (o ++ missing) → IsUnwritten (task_of_course c) R rest b o
+  torn_stop stopped = record { unread = λ reads. cc; more = missing; text = inr (inr (inl stopped)) }
+
+  pub torn_read : R → IsUnread (task_of_course c) b (o ++ missing) → IsUnwritten (task_of_course c) R rest b o
+  torn_read failed unread = record { unread = λ reads. cc; more = missing; text = inr (inr (inr (failed, unread))) }

@@ -1,0 +1,14 @@
+use Rattle.std.proofs.Common.{◌≡◌, ◌≤◌, length}
+use Rattle.hk_spec_runs.specs.Outcome.{Trades}
+use Rattle.hk_player.specs.Pieces.{HasPlayed}
+use Rattle.hk_player.proofs.input.play_input.Given as goal
+
+-- the bytes that were read were played, at least one a turn
+abbrev pub invariant-loop-turn : goal.invariant-loop-turn
+invariant-loop-turn g l = record {
+  course_stays : g.P.Player.course l.player ≡ g.P.Player.course l.fn.player;
+  played : Trades (g.S.Source.left l.fn.input) (g.S.Source.left l.input) (g.K.Sink.written l.fn.out) (g.K.Sink.written l.out)
+      (λ b o. HasPlayed (g.P.Player.has_played l.player) (g.P.Player.course l.fn.player) b o × (l._turn ≤ length b));
+  reads_count : g.S.Source.faults l.fn.input ≤ g.S.Source.faults l.input;
+  writes_count : g.K.Sink.faults l.fn.out ≤ g.K.Sink.faults l.out;
+}

@@ -1,0 +1,4 @@
+pub mod Course
+pub mod Playing
+pub mod Pieces
+pub mod Statuses

@@ -1,0 +1,45 @@
+// Pieces of the input, byte after byte.
+ghost use Rattle.std.specs.Prelude.{◌≡◌, ◌≤◌, ◌++◌, ℕ, List};
+ghost use Rattle.hk_base.specs.Devices.{Rose};
+ghost use Rattle.hk_player.specs.Playing.{Adds, StopsAt, IsTorn};
+ghost use Rattle.hk_player.specs.Pieces.{IfPlayed};
+
+use crate::player::{Player, Taken};
+use hk_base::{Sink, Steps, Trouble};
+use std::sync::ledger::Ledger;
+
+/// What a player makes of a piece of the input.
+#[derive(Clone, Copy, Debug, PartialEq, Eq)]
+pub enum Played {
+    All,
+    Stopped(Trouble),
+    SinkFault,
+}
+
+/// Plays a piece of the input, up to the first byte that meets a fault or at which writing fails.
+pub fn play_piece<P: Player, K: Sink, L: Ledger>(
+    player: &mut P,
+    piece: &[u8],
+    out: &mut K,
+    steps: &mut Steps<L>,
+) -> Played
+    ensures course_stays { P.course player.new ≡ P.course player.old }
+    ensures all { result ≡ Played.All → (refused text : List ℕ) → P.has_played player.old refused text
+        → (refused' : List ℕ) × P.has_played player.new refused' (text ++ piece.now)
+        × Adds (P.course player.old) refused text refused' (text ++ piece.now) (K.written out.old) (K.written out.new) }
+    ensures stopped { IfPlayed result (λ trouble. (refused text : List ℕ) → P.has_played player.old refused text
+        → StopsAt (P.course player.old) refused text (text ++ piece.now) trouble (K.written out.old) (K.written out.new)) }
+    ensures torn { result ≡ Played.SinkFault → (refused text : List ℕ) → P.has_played player.old refused text
+        → IsTorn (P.course player.old) refused text (text ++ piece.now) (K.written out.old) (K.written out.new) }
+    ensures cause { result ≡ Played.SinkFault → Rose (K.faults out.old) (K.faults out.new) }
+    ensures never_falls { K.faults out.old ≤ K.faults out.new }
+{
+    for byte in piece {
+        match player.take(*byte, out, steps) {
+            Taken::Going => {}
+            Taken::Stopped(trouble) => return Played::Stopped(trouble),
+            Taken::SinkFault => return Played::SinkFault,
+        }
+    }
+    Played::All
+}
