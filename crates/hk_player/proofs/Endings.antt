@@ -1,12 +1,13 @@
 -- How an input ends, as what all of it says.
-use Rattle.std.proofs.Common.{◌≡◌, ℕ, List, [], ◌++◌, refl, sym, ◌∙◌, ap, subst, append_assoc, Bool, true, Option, Some, None, inl, inr}
+use Rattle.std.proofs.Common.{◌≡◌, ℕ, List, [], ◌++◌, refl, sym, ◌∙◌, ap, subst, append_assoc, append-nil, Bool, true, Option, Some, None, option_map, inl, inr}
 use Rattle.std.specs.Option.{option_or}
 use Rattle.hk_base.specs.Devices.{Took, Wrote, IsNothing}
 use Rattle.hk_base.proofs.Taking.{Wrote-append}
 use Rattle.hk_base.specs.declared.plain.Trouble.{Trouble}
 use Rattle.hk_base.specs.declared.plain.Trouble.TheVariants.{ReadFault}
 use Rattle.hk_spec_lines.specs.Lines.{trouble_line}
-use Rattle.hk_spec_streams.specs.Pieces.{fault_of, seen_of}
+use Rattle.hk_spec_streams.specs.Pieces.{first_met, fault_of, seen_of}
+use Rattle.hk_spec_streams.proofs.FirstFault.{first_met-more}
 use Rattle.hk_spec_runs.specs.Outcome.{Trades, IsWhole, IsStopped, IsUnread, IsUnwritten}
 use Rattle.hk_report.specs.Fronts.{WroteFront}
 use Rattle.hk_player.specs.Course.{Course, task_of_course}
@@ -85,3 +86,34 @@ module _ (c : Course) (R : Type 0) (rest : Option (List ℕ)) (b o missing : Lis
 
   pub torn_read : R → IsUnread (task_of_course c) b (o ++ missing) → IsUnwritten (task_of_course c) R rest b o
   torn_read failed unread = record { unread = λ reads. cc; more = missing; text = inr (inr (inr (failed, unread))) }
+
+-- a fault stays, whatever bytes follow
+fault_more : {F : Type 0} (met : List ℕ → Option F) (b more : List ℕ) (f : F) → fault_of met b ≡ Some f → fault_of met (b ++ more) ≡ Some f
+fault_more {F = F} met b more f is = from (first_met met b) refl is
+  where
+    from : (m : Option (ℕ × F)) → first_met met b ≡ m → option_map (λ (x : ℕ × F). x.1) m ≡ Some f → fault_of met (b ++ more) ≡ Some f
+    from None first e = cc
+    from (Some m) first e = ap (option_map (λ (x : ℕ × F). x.1)) (first_met-more met m b more first) ∙ e
+
+-- nothing stops an input with which nothing is wrong
+pub never_stopped : (c : Course) (whole b o : List ℕ) (rest : Option (List ℕ)) → Took b (Some whole) rest → IsStopped (task_of_course c) rest b o
+    → ((refused : List ℕ) → (task_of_course c).wrong whole refused ≡ None) → ⊥
+never_stopped c whole b o None took stopped right = cc
+never_stopped c whole b o (Some more) took stopped right =
+    let same : whole ≡ b ++ more = cc in
+    by (fault_of c.met b) refl same
+  where
+    some_isnt : {A : Type 0} (x : A) → Some x ≡ None → ⊥
+    some_isnt x e = cc
+
+    by : (f : Option Trouble) → fault_of c.met b ≡ f → whole ≡ b ++ more → ⊥
+    by (Some trouble) is same =
+        some_isnt trouble (sym (ap (λ f. option_or f (c.ending whole)) (ap (fault_of c.met) same ∙ fault_more c.met b more trouble is)) ∙ right stopped.refused)
+    by None is same =
+        let all : whole ≡ b = same ∙ ap (λ m. b ++ m) (stopped.at_the_end is) ∙ append-nil b in
+        some_isnt stopped.trouble (sym stopped.first ∙ ap (λ t. option_or (fault_of c.met t) (c.ending t)) (sym all) ∙ right stopped.refused)
+
+pub stays_right : (c : Course) (whole : List ℕ) (left rest before now : Option (List ℕ)) → Trades left rest before now (IsStopped (task_of_course c) rest) → left ≡ Some whole
+    → ((refused : List ℕ) → (task_of_course c).wrong whole refused ≡ None) → ⊥
+stays_right c whole left rest before now trades tells right =
+    never_stopped c whole trades.0 trades.1 rest (subst (λ (l : Option (List ℕ)). Took trades.0 l rest) tells trades.2) trades.4 right

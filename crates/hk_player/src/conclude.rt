@@ -50,6 +50,10 @@ pub fn play<P: Player, S: Source, K: Sink, L: Ledger>(
 
     ensures read_fault_cause { result.code ≡ READ_FAULT → Rose (S.faults input.old) (S.faults input.new) }
     ensures write_fault_cause { result.code ≡ WRITE_FAULT → Rose (K.faults out.old) (K.faults out.new) }
+
+    // An input with which nothing is wrong is never refused.
+    ensures complete { (b : List ℕ) → S.left input.old ≡ Some b → ((refused : List ℕ) → (task_of_course (P.course player.old)).wrong b refused ≡ None)
+        → (Rose (S.faults input.old) (S.faults input.new) → ⊥) → (Rose (K.faults out.old) (K.faults out.new) → ⊥) → (result.code ≡ ENDED) ⊎ (result.code ≡ IN_DISORDER) }
 {
     match play_input(player, input, out, steps) {
         Stop::End => end(player, out),

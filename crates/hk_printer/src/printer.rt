@@ -25,7 +25,13 @@ impl Printer {
 
     /// A printer of sound of 1 or 2 channels that is decimated by a factor of 1 to 8, with `flips` weak bits in a print, and
     /// of at most `limit` bytes. It takes all memory that it needs.
-    pub fn new(alloc: Global, channels: u8, factor: u8, flips: u32, limit: u64) -> Result<Printer, NoMemory>
+    pub fn new(
+        alloc: Global,
+        channels: u8,
+        factor: u8,
+        flips: u32,
+        limit: u64,
+    ) -> Result<Printer, NoMemory>
         requires some_channels { 1 ≤ channels }
         requires few_channels { channels ≤ 2 }
         requires some_factor { 1 ≤ factor }

@@ -1,9 +1,10 @@
 -- The statuses of the top call, and what its words ask for.
-use Rattle.std.specs.Prelude.{◌≡◌, ◌⊎◌, ℕ, List, [], ◌∷◌, String, string_bytes, codes, bytes_eq, if◌then◌else◌, Option, Some, None}
-use Rattle.std.specs.Option.{IfSome}
+use Rattle.std.specs.Prelude.{◌≡◌, ◌⊎◌, ℕ, List, [], ◌∷◌, String, string_bytes, codes, bytes_eq, if◌then◌else◌, Option, Some, None, option_map}
+use Rattle.std.specs.Option.{IfSome, option_or}
 use Rattle.hk_spec_runs.specs.Desk.{Rules}
-use Rattle.hk_spec_runs.specs.Words.{rules_of}
-use Rattle.hk_spec_runs.specs.Outcome.{Task}
+use Rattle.hk_spec_runs.specs.Words.{Printing, Order, Replay, Print, Make, rules_of, order_of}
+use Rattle.hk_words.specs.Options.{texts}
+use Rattle.hk_spec_runs.specs.Outcome.{Task, task_of}
 use Rattle.hk_spec_runs.specs.Built.{built_task}
 
 -- the rules of a run of one station, with all options at their defaults
@@ -16,13 +17,28 @@ asked [] = None
 asked (word ∷ []) = if bytes_eq (string_bytes word) (codes "replay") then Some default_rules else None
 asked (word ∷ other ∷ words) = None
 
+-- the sound that an order asks to print
+abbrev pub print_asked : Option Order → Option Printing
+print_asked None = None
+print_asked (Some (Replay rules)) = None
+print_asked (Some (Print p)) = Some p
+print_asked (Some (Make seed rules)) = None
+
+-- what the words ask to be made of the input, as far as it is built: a replay with all options at their defaults, or prints of sound
+abbrev pub task_asked : {A : Type 0} → List (String A) → Option Task
+task_asked words = option_or (option_map (λ rules. built_task rules) (asked words)) (option_map (λ p. task_of (Print p)) (print_asked (order_of (texts words))))
+
 -- a fact of what the words ask for, where they ask for something
 abbrev pub IfAsked : {A : Type 0} → List (String A) → (Task → Type 0) → Type 0
-IfAsked words P = IfSome (asked words) (λ rules. P (built_task rules))
+IfAsked words P = IfSome (task_asked words) P
 
 -- the statuses of a run that was opened: it ended in order, reading failed, writing failed, or it was stopped
 abbrev pub IsPlayedStatus : ℕ → Type 0
 IsPlayedStatus code = (code ≡ 0) ⊎ (code ≡ 5) ⊎ (code ≡ 6) ⊎ (code ≡ 7)
+
+-- the same, and want of memory
+abbrev pub IsOpenedStatus : ℕ → Type 0
+IsOpenedStatus code = (code ≡ 4) ⊎ IsPlayedStatus code
 
 -- the statuses of the top call: also where the words ask for nothing that is built, and for want of memory
 abbrev pub IsStatus : ℕ → Type 0

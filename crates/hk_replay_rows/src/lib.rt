@@ -11,6 +11,8 @@ mod places;
 #[cfg(test)]
 mod played;
 #[cfg(test)]
+mod prints;
+#[cfg(test)]
 mod replays;
 #[cfg(test)]
 mod streams;

@@ -1,9 +1,9 @@
-use Rattle.std.proofs.Common.{◌≡◌, List, ℕ, refl, sym, ◌∙◌, ap, subst, true, false, inl, inr}
+use Rattle.std.proofs.Common.{◌≡◌, List, ℕ, refl, sym, ◌∙◌, ap, subst, arith, true, false, inl, inr}
 use Rattle.hk_base.specs.Devices.{Rose}
 use Rattle.hk_spec_runs.specs.Outcome.{Trades, IsWhole, IsStopped, IsUnread, IsUnwritten}
 use Rattle.hk_spec_streams.specs.Pieces.{fault_of}
 use Rattle.hk_player.specs.Course.{Course, task_of_course}
-use Rattle.hk_player.proofs.Endings.{whole_end, wrong_end, unread, left, with_line, with_front, torn_text, torn_whole, torn_stop, torn_read}
+use Rattle.hk_player.proofs.Endings.{whole_end, wrong_end, unread, left, with_line, with_front, torn_text, torn_whole, torn_stop, torn_read, stays_right}
 use Rattle.hk_player.proofs.conclude.play.Goals as goal
 
 pub returns-in-End-clause-ended : goal.returns-in-End-clause-ended
@@ -113,3 +113,20 @@ returns-in-SinkFault-clause-write_fault g c = λ is.
     let course : Course = g.P.Player.course c.args.player.now in
     let torn = c.in-SinkFault.ensures.torn refl in
     (torn.0, torn.1, torn.2, torn.3, torn_text course _ _ torn.0 torn.1 torn.4.1 torn.4.0 torn.4.2)
+
+pub returns-in-End-clause-complete : goal.returns-in-End-clause-complete
+returns-in-End-clause-complete g c = λ whole tells right reads writes.
+    let played = c.in-End.ensures.end refl in
+    elim c.end.ensures.known [
+      | inl ended ↦ inl ended
+      | inr (inl disorder) ↦ inr disorder
+      | inr (inr (inl stopped)) ↦ absurd (stays_right (g.P.Player.course c.args.player.now) whole _ _ _ _ (returns-in-End-clause-stopped g c stopped) tells right)
+      | inr (inr (inr torn)) ↦ absurd (writes (let before = c.in-End.ensures.writes_count in let after = c.end.ensures.cause torn in omega (arith, before, after)))
+    ]
+
+pub returns-in-Stopped-clause-complete : goal.returns-in-Stopped-clause-complete
+returns-in-Stopped-clause-complete g c = λ whole tells right reads writes.
+    elim c.tell.ensures.known [
+      | inl stopped ↦ absurd (stays_right (g.P.Player.course c.args.player.now) whole _ _ _ _ (returns-in-Stopped-clause-stopped g c stopped) tells right)
+      | inr torn ↦ absurd (writes (let before = c.in-Stopped.ensures.writes_count in let after = c.tell.ensures.cause torn in omega (arith, before, after)))
+    ]

@@ -9,8 +9,11 @@ use Rattle.hk_player.proofs.piece.play_piece.Goals as goal
 pub loop-byte-init : goal.loop-byte-init
 loop-byte-init g c = record {
   course_stays = refl;
-  played = λ refused text h. (refused, subst (g.P.Player.has_played c.args.player.now refused) (sym (append-nil text)) h,
-      Adds-nothing (g.P.Player.course c.args.player.now) refused text (g.K.Sink.written c.args.out.now));
+  played = λ refused text h. (
+    refused,
+    subst (g.P.Player.has_played c.args.player.now refused) (sym (append-nil text)) h,
+    Adds-nothing (g.P.Player.course c.args.player.now) refused text (g.K.Sink.written c.args.out.now),
+  );
   never_falls = omega arith;
 }
 

@@ -1,4 +1,4 @@
-use Rattle.hk_replay.proofs.top.replay_top.Given as goal
+use Rattle.hk_replay.proofs.top.replay_default.Given as goal
 
 -- the steps are counted in the ledger of the blank
 abbrev pub ghosts-run_counted : goal.ghosts-run_counted
