@@ -4,3 +4,4 @@ pub mod RollFields
 pub mod Shelving
 pub mod FreeSlots
 pub mod Kept
+pub mod Filled

@@ -61,18 +61,37 @@ fn song_is_found_up_to_2867_errors_from_its_publish_on(rt: HostRuntime) -> Resul
     let Ok(far) = block_with(rt.alloc(), 63) else {
         panic!(rt; "no memory");
     };
-    assert_eq!(rt; alone.check_add(7, 301), Err(Refused::PositionsFull(300, 301)));
+    assert_eq!(rt;
+        alone.check_add(7, 301),
+        Err(Refused::PositionsFull(300, 301))
+    );
     let zeros = SongBlock::new(7, vec![in rt.alloc(); 0; 256]?);
     assert_eq!(rt; alone.stage(Edit::Add(zeros)), Ok(()));
-    assert_eq!(rt; alone.stage(Edit::Withdraw(8)), Err(StageFault::Refused(Refused::Unknown(8))));
-    assert_eq!(rt; looked_up::<Brand>(&mut alone, &near, &mut scratch, Blank::new(1)), 0);
+    assert_eq!(rt;
+        alone.stage(Edit::Withdraw(8)),
+        Err(StageFault::Refused(Refused::Unknown(8)))
+    );
+    assert_eq!(rt;
+        looked_up::<Brand>(&mut alone, &near, &mut scratch, Blank::new(1)),
+        0
+    );
     assert!(rt; scratch.matches().is_empty());
     assert_eq!(rt; alone.publish(), Ok(1));
     assert_eq!(rt; alone.publish(), Err(Refused::VersionsFull(1)));
-    assert_eq!(rt; looked_up::<Brand>(&mut alone, &near, &mut scratch, Blank::new(1)), 1);
-    let found = Match { id: 7, start: 0, errors: 2867 };
+    assert_eq!(rt;
+        looked_up::<Brand>(&mut alone, &near, &mut scratch, Blank::new(1)),
+        1
+    );
+    let found = Match {
+        id: 7,
+        start: 0,
+        errors: 2867,
+    };
     assert_eq!(rt; scratch.matches(), [found].as_slice());
-    assert_eq!(rt; looked_up::<Brand>(&mut alone, &far, &mut scratch, Blank::new(1)), 1);
+    assert_eq!(rt;
+        looked_up::<Brand>(&mut alone, &far, &mut scratch, Blank::new(1)),
+        1
+    );
     assert!(rt; scratch.matches().is_empty());
     Ok(())
 }
