@@ -1,4 +1,4 @@
-pub mod RollPlaces
+pub mod Places
 pub mod RollSongs
 pub mod RollFields
 pub mod Shelving

@@ -11,7 +11,7 @@ use Rattle.hk_catalogue.specs.Shelves.{Shelves, songs_in, songs_of, song_of}
 use Rattle.hk_catalogue.specs.CatalogueInside.{IsKept, IsHeld, IsFilled, IsFree, AreDistinct}
 use Rattle.hk_catalogue.specs.declared.entry.Entry.{Entry}
 use Rattle.hk_catalogue.specs.declared.catalogue.Catalogue.TheInside.{Inside}
-use Rattle.hk_catalogue.proofs.RollPlaces.{map-insert, rising-insert}
+use Rattle.hk_catalogue.proofs.Places.{map-insert, rising-insert}
 use Rattle.hk_catalogue.proofs.Filled.{filled-insert}
 use Rattle.hk_catalogue.proofs.FreeSlots.{others_differ, distinct-front}
 use Rattle.hk_catalogue.proofs.Shelving.{All-insert, SameBut, held_stays, songs-insert, songs-with, positions-insert}

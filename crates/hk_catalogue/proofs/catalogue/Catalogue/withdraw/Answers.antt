@@ -12,7 +12,7 @@ use Rattle.hk_catalogue.specs.Shelves.{Shelves, songs_in, songs_of}
 use Rattle.hk_catalogue.specs.CatalogueInside.{as_shelves, IsKept, IsHeld, IsFilled, IsFree, AreDistinct}
 use Rattle.hk_catalogue.specs.declared.entry.Entry.{Entry}
 use Rattle.hk_catalogue.specs.declared.catalogue.Catalogue.TheInside.{Inside}
-use Rattle.hk_catalogue.proofs.RollPlaces.{has-here, map-remove, rising-remove, within-at}
+use Rattle.hk_catalogue.proofs.Places.{has-here, map-remove, rising-remove, within-at}
 use Rattle.hk_catalogue.proofs.Filled.{filled-remove}
 use Rattle.hk_catalogue.proofs.FreeSlots.{distinct-push}
 use Rattle.hk_catalogue.proofs.Shelving.{All-remove, SameBut, held_stays, off_other, other_ids, songs-remove, songs-without, positions-remove, some_from_held}
