@@ -13,7 +13,7 @@ use Rattle.hk_catalogue.specs.Shelves.{Shelves, songs_in, songs_of, song_of, ent
 use Rattle.hk_catalogue.specs.CatalogueInside.{as_shelves, IsKept, IsHeld, IsFree}
 use Rattle.hk_catalogue.specs.declared.entry.Entry.{Entry}
 use Rattle.hk_catalogue.specs.declared.catalogue.Catalogue.TheInside.{Inside}
-use Rattle.hk_catalogue.proofs.RollPlaces.{has-here}
+use Rattle.hk_catalogue.proofs.Places.{has-here}
 use Rattle.hk_catalogue.proofs.Shelving.{has-songs, length-songs, entry_in, SameBut, off_empty, some_not_none}
 
 abbrev pub pair_of : Entry → ℕ × ℕ

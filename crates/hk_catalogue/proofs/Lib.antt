@@ -1,6 +1,7 @@
-pub mod RollPlaces
+pub mod Places
 pub mod RollSongs
 pub mod RollFields
 pub mod Shelving
 pub mod FreeSlots
 pub mod Kept
+pub mod Filled

@@ -12,7 +12,7 @@ use Rattle.hk_catalogue.specs.Register.{Register}
 use Rattle.hk_catalogue.specs.RollInside.{as_register, IsKept}
 use Rattle.hk_catalogue.specs.declared.entry.Entry.{Entry}
 use Rattle.hk_catalogue.specs.declared.roll.Roll.TheInside.{Inside}
-use Rattle.hk_catalogue.proofs.RollPlaces.{map-insert, map-remove, put-at, gone-at, within-at, rising-insert, rising-remove, words-gone}
+use Rattle.hk_catalogue.proofs.Places.{map-insert, map-remove, put-at, gone-at, within-at, rising-insert, rising-remove, words-gone}
 use Rattle.hk_catalogue.proofs.RollSongs.{IsAllowed, allowed}
 
 abbrev pair : Entry → ℕ × ℕ

@@ -13,7 +13,7 @@ use Rattle.hk_catalogue.specs.Refusals.{has_id}
 use Rattle.hk_catalogue.specs.Entries.{AreAbove, AreRising, Splits}
 use Rattle.hk_catalogue.specs.Shelves.{words_at, song_of, songs_in}
 use Rattle.hk_catalogue.specs.CatalogueInside.{IsHeld}
-use Rattle.hk_catalogue.proofs.RollPlaces.{map-insert, map-remove, put-at, gone-at}
+use Rattle.hk_catalogue.proofs.Places.{map-insert, map-remove, put-at, gone-at}
 
 pub All-insert : {X : Type 0} (P : X → Type 0) (xs : List X) (i : ℕ) (x : X) → All P xs → P x → All P (insert xs i x)
 All-insert P xs i x all here = All-append P (take i xs) (x ∷ drop i xs) (All-take P i xs all) (All-cons P x (drop i xs) here (All-drop P i xs all))

@@ -1,8 +1,8 @@
 -- What a catalogue keeps, and what is true of it.
 use Rattle.std.specs.Prelude.{◌≡◌, ◌≢◌, ℕ, ◌+◌, ◌≤◌, ◌<◌, ◌^◌, List, length, slice_index_or, None, Some, option_map, vec_len, vec_capacity}
-use Rattle.std.specs.List.{All}
+use Rattle.std.specs.List.{All, Contains}
 use Rattle.hk_spec_matching.specs.Catalogue.{positions_of}
-use Rattle.hk_table.specs.Store.{Store, song_at, spare}
+use Rattle.hk_table.specs.Store.{Store, Track, song_at, spare}
 use Rattle.hk_catalogue.specs.Entries.{pairs_of, AreRising}
 use Rattle.hk_catalogue.specs.Shelves.{Shelves, songs_in}
 use Rattle.hk_catalogue.specs.declared.catalogue.Catalogue.TheInside.{Inside}
@@ -18,14 +18,19 @@ pub record IsFree (store : Store) (slot : ℕ) : Type 0 where
   pub there : slot < length store.slots
   pub empty : song_at store slot ≡ None
 
+-- each song in a slot has its entry
+abbrev pub IsFilled : Store → List (ℕ × ℕ) → Type 0
+IsFilled store index = (slot : ℕ) (track : Track) → song_at store slot ≡ Some track → Contains index (track.id, slot)
+
 -- no number stands twice
 abbrev pub AreDistinct : List ℕ → Type 0
 AreDistinct xs = (i j : ℕ) → i ≢ j → i < length xs → j < length xs → slice_index_or xs i 0 ≢ slice_index_or xs j 0
 
--- Ids rise, each has its song in a slot of its own, and each other slot is free and listed once.
+-- Ids rise, each has its song in a slot of its own, no other slot has a song, and the free slots are listed once.
 pub record IsKept (c : Inside) : Type 0 where
   pub rising : AreRising (pairs_of c.index.items)
   pub held : All (IsHeld c.store) (pairs_of c.index.items)
+  pub filled : IsFilled c.store (pairs_of c.index.items)
   pub free : All (IsFree c.store) c.free.items
   pub distinct : AreDistinct c.free.items
   pub all_slots : vec_len c.index + vec_len c.free ≡ length c.store.slots

@@ -1,5 +1,5 @@
 -- What a shelf answers to an edit, and what it is after one.
-use Rattle.std.specs.Prelude.{◌≡◌, ⊤, ℕ, List, [], ◌∷◌, ◌++◌, filter_map, Option, Some, None, Result, Ok, Err}
+use Rattle.std.specs.Prelude.{◌≡◌, ⊤, List, [], ◌∷◌, ◌++◌, filter_map, Option, Some, None, Result, Ok, Err}
 use Rattle.hk_spec_matching.specs.Catalogue as edits
 use Rattle.hk_spec_matching.specs.Catalogue.{edited}
 use Rattle.hk_block.specs.Looker.{ShelfView}

@@ -1,5 +1,6 @@
 // The catalogue: a store of words, the ids of its songs with their slots, and the slots that are free.
 ghost use Rattle.std.specs.Prelude.{◌≡◌, ◌≤◌, ◌<◌, ◌^◌, ◌&&◌, not, true, false, length, vec_len, vec_capacity, IfOk, IsTrue, Some, is_some, slice_get};
+ghost use Rattle.std.specs.List.{Contains};
 ghost use Rattle.std.specs.Option.{IfSome};
 ghost use Rattle.hk_spec_matching.specs.Catalogue.{Limits, has_song, has_room, with_song, without_song, positions_of};
 ghost use Rattle.hk_spec_matching.specs.Matching.{MOST_ERRORS};
@@ -123,7 +124,8 @@ impl Catalogue {
 
     /// The song in a slot, and None exactly where the slot is empty or doesn't exist.
     pub fn song(&self, slot: u32) -> Option<Song<'_>>
-        ensures { result ≡ song_at self.now.store slot }
+        ensures song { result ≡ song_at self.now.store slot }
+        ensures known { IfSome result (λ track. Contains (songs_of self.now) (entry_of track)) }
     {
         self.store.song(slot)
     }

@@ -58,3 +58,20 @@ fn slots_and_words_are_used_again(rt: HostRuntime) -> Result<(), AllocError> {
     assert_eq!(rt; catalogue.song(slot).map(|song| song.id()), Some(9));
     Ok(())
 }
+
+#[test]
+fn all_slots_and_all_words_are_used(rt: HostRuntime) -> Result<(), AllocError> {
+    let Ok(mut catalogue) = Catalogue::new(rt.alloc(), 65536, 16777216) else {
+        panic!(rt; "no memory");
+    };
+    for id in 0..65536u32 {
+        catalogue.absorb(&adding(rt.alloc(), id, id, 256)?);
+    }
+    assert_eq!(rt; catalogue.count(), 65536);
+    catalogue.absorb(&adding(rt.alloc(), 65536, 7, 256)?);
+    assert!(rt; catalogue.find(65536).is_none());
+    catalogue.absorb(&Edit::Withdraw(0));
+    catalogue.absorb(&adding(rt.alloc(), 65536, 7, 256)?);
+    assert!(rt; catalogue.find(65536).is_some());
+    Ok(())
+}

@@ -27,5 +27,9 @@ pub trait Shelf {
         requires change { IsChange edit }
         ensures answer { IsAnswer (refusal_of (shelf self.old) edit) result }
         ensures staged { OnOk result (shelf self.new ≡ with_staged (shelf self.old) edit) }
-        ensures unchanged { OnErr result (shelf self.new ≡ shelf self.old) };
+        ensures unchanged { OnErr result (shelf self.new ≡ shelf self.old) }
+        ensures limits_stay { (shelf self.new).limits ≡ (shelf self.old).limits }
+        ensures base_stays { (shelf self.new).base ≡ (shelf self.old).base }
+        ensures journal_stays { (shelf self.new).journal ≡ (shelf self.old).journal }
+        ensures home_stays { (shelf self.new).home ≡ (shelf self.old).home };
 }

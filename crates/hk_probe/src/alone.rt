@@ -71,6 +71,7 @@ impl Alone {
         ensures answer { result ≡ publish_answer self.old }
         ensures published { OnOk result (self.new ≡ after_publish self.old) }
         ensures unchanged { OnErr result (self.new ≡ self.old) }
+        ensures limits_stay { self.new.limits ≡ self.old.limits }
     {
         if let Err(refused) = self.roll.check_seal() {
             return Err(refused);

@@ -1,4 +1,4 @@
-use Rattle.hk_catalogue.proofs.RollPlaces.{has-here, has-none}
+use Rattle.hk_catalogue.proofs.Places.{has-here, has-none}
 use Rattle.hk_catalogue.proofs.entry.has_id.Goals as goal
 
 pub returns-in-Some : goal.returns-in-Some

@@ -1,6 +1,6 @@
 use Rattle.std.proofs.Common.{rules, of_calls, nat_lt}
 use Rattle.std.proofs.lemmas.List.Sorted.{IsPartitionPoint-from_clause, IsPartitionedBy-ltb}
-use Rattle.hk_catalogue.proofs.RollPlaces.{splits, non_decreasing}
+use Rattle.hk_catalogue.proofs.Places.{splits, non_decreasing}
 use Rattle.hk_catalogue.proofs.entry.place_of.Goals as goal
 
 pub returns-clause-splits : goal.returns-clause-splits

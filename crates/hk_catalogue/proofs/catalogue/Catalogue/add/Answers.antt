@@ -1,17 +1,18 @@
 -- The song is put into the last free slot, and its entry at its place.
 use Rattle.std.proofs.Common.{◌≡◌, ◌≢◌, ◌+◌, ◌++◌, [], ◌∷◌, ℕ, List, length, set, sym, ◌∙◌, ap, arith, subst, refl, Some, false, option_map}
 use Rattle.std.specs.List.{All, insert}
-use Rattle.std.proofs.lemmas.List.{get_or_push, length_push}
+use Rattle.std.proofs.lemmas.List.{get_or_push, length_push, length-map}
 use Rattle.std.proofs.lemmas.List.Elements.{All-take}
 use Rattle.hk_spec_matching.specs.Catalogue.{with_song, positions_of}
 use Rattle.hk_table.specs.Store.{Store, Track, song_at}
 use Rattle.hk_catalogue.specs.Refusals.{has_id}
 use Rattle.hk_catalogue.specs.Entries.{pairs_of, AreRising, Splits}
 use Rattle.hk_catalogue.specs.Shelves.{Shelves, songs_in, songs_of, song_of}
-use Rattle.hk_catalogue.specs.CatalogueInside.{IsKept, IsHeld, IsFree, AreDistinct}
+use Rattle.hk_catalogue.specs.CatalogueInside.{IsKept, IsHeld, IsFilled, IsFree, AreDistinct}
 use Rattle.hk_catalogue.specs.declared.entry.Entry.{Entry}
 use Rattle.hk_catalogue.specs.declared.catalogue.Catalogue.TheInside.{Inside}
-use Rattle.hk_catalogue.proofs.RollPlaces.{map-insert, rising-insert}
+use Rattle.hk_catalogue.proofs.Places.{map-insert, rising-insert}
+use Rattle.hk_catalogue.proofs.Filled.{filled-insert}
 use Rattle.hk_catalogue.proofs.FreeSlots.{others_differ, distinct-front}
 use Rattle.hk_catalogue.proofs.Shelving.{All-insert, SameBut, held_stays, songs-insert, songs-with, positions-insert}
 use Rattle.hk_catalogue.proofs.Kept.{pair_of, has_in_view, same_but_set, set_in, length_set, free_stay, none_there}
@@ -79,6 +80,8 @@ invariant_of-self c =
       rising = subst AreRising (sym (entries_are c)) (rising-insert index track.id slot place (splits c) (absent c) kept.rising);
       held = subst (All (IsHeld new)) (sym (entries_are c))
           (All-insert (IsHeld new) index place (track.id, slot) (held_stays inside.store new slot index (same c) (off_slot c) kept.held) (ap (option_map (λ (t : Track). t.id)) (put_in c)));
+      filled = subst (IsFilled new) (sym (entries_are c))
+          (filled-insert inside.store new slot place track index (same c) (put_in c) (omega (arith, c.place_of-place.ensures.bound, ap (λ (es : List Entry). length es) c.as_slice.ensures.value, length-map inside.index.items pair_of)) kept.filled);
       free = free_stay inside.store new slot front (same c) size (others_differ front slot distinct) old_free;
       distinct = distinct-front front slot distinct;
       all_slots = omega (arith, kept.all_slots, c.in-Ok.ensures.len, ap length (popped c), length_push front slot, inside.free.ok, c.pop.new.self.ok, size);

@@ -5,7 +5,7 @@ use Rattle.hk_catalogue.specs.Entries.{pairs_of}
 use Rattle.hk_catalogue.specs.Shelves.{Shelves, HasIn}
 use Rattle.hk_catalogue.specs.CatalogueInside.{IsHeld}
 use Rattle.hk_catalogue.specs.declared.entry.Entry.{Entry}
-use Rattle.hk_catalogue.proofs.RollPlaces.{has-none}
+use Rattle.hk_catalogue.proofs.Places.{has-none}
 use Rattle.hk_catalogue.proofs.Kept.{has_in_view, read_has, held_at}
 use Rattle.hk_catalogue.proofs.catalogue.Catalogue.find.Goals as goal
 

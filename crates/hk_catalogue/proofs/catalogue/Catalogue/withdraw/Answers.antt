@@ -9,10 +9,11 @@ use Rattle.hk_table.specs.Store.{Store}
 use Rattle.hk_catalogue.specs.Refusals.{has_id}
 use Rattle.hk_catalogue.specs.Entries.{pairs_of, AreRising, Splits}
 use Rattle.hk_catalogue.specs.Shelves.{Shelves, songs_in, songs_of}
-use Rattle.hk_catalogue.specs.CatalogueInside.{as_shelves, IsKept, IsHeld, IsFree, AreDistinct}
+use Rattle.hk_catalogue.specs.CatalogueInside.{as_shelves, IsKept, IsHeld, IsFilled, IsFree, AreDistinct}
 use Rattle.hk_catalogue.specs.declared.entry.Entry.{Entry}
 use Rattle.hk_catalogue.specs.declared.catalogue.Catalogue.TheInside.{Inside}
-use Rattle.hk_catalogue.proofs.RollPlaces.{has-here, map-remove, rising-remove, within-at}
+use Rattle.hk_catalogue.proofs.Places.{has-here, map-remove, rising-remove, within-at}
+use Rattle.hk_catalogue.proofs.Filled.{filled-remove}
 use Rattle.hk_catalogue.proofs.FreeSlots.{distinct-push}
 use Rattle.hk_catalogue.proofs.Shelving.{All-remove, SameBut, held_stays, off_other, other_ids, songs-remove, songs-without, positions-remove, some_from_held}
 use Rattle.hk_catalogue.proofs.Kept.{pair_of, has_in_view, held_at, slot_there, same_but_set, set_in, length_set, free_stay, none_held}
@@ -104,6 +105,8 @@ invariant_of-self c =
       rising = subst AreRising (sym (entries_are c)) (rising-remove index place kept.rising);
       held = subst (All (IsHeld new)) (sym (entries_are c))
           (held_stays inside.store new gone.number (remove index place) (same c) (off_slot c) (All-remove (IsHeld inside.store) index place kept.held));
+      filled = subst (IsFilled new) (sym (entries_are c))
+          (filled-remove inside.store new place (pair_of gone) index (same c) (set_in inside.store new gone.number None (changed c) there) (omega (arith, (at_call c).within, length-map inside.index.items pair_of)) pair kept.filled);
       free = subst (All (IsFree new)) (sym c.push_reserved.ensures.items) free;
       distinct = subst AreDistinct (sym c.push_reserved.ensures.items) (distinct-push inside.free.items gone.number kept.distinct others);
       all_slots = omega (arith, kept.all_slots, c.remove-gone.ensures.len, c.push_reserved.ensures.len, size);

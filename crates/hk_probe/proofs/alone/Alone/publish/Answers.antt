@@ -8,7 +8,7 @@ use Rattle.hk_catalogue.specs.Refusals.{lengths_of}
 use Rattle.hk_catalogue.specs.Shelves.{songs_of, HasLimits}
 use Rattle.hk_catalogue.specs.Shelf.{IsChange, changes_of}
 use Rattle.hk_catalogue.specs.declared.edit.Edit.{Edit}
-use Rattle.hk_probe.specs.Single.{after_publish}
+use Rattle.hk_probe.specs.Single.{Single, after_publish}
 use Rattle.hk_probe.specs.Inside.{as_single, IsKept}
 use Rattle.hk_probe.specs.declared.alone.Alone.TheInside.{Inside}
 use Rattle.hk_probe.proofs.alone.Alone.publish.Goals as goal
@@ -47,3 +47,6 @@ returns-clause-published c =
     let new : as_single (record { published = c.absorb.new.self; roll = c.note.new.self; staged = c.clear.new.self }) ≡ after_publish (as_single inside) =
     λ i. record { songs = songs_are c i; version = version_is c i; staged = ap changes_of c.clear.ensures.items i; limits = same_limits c i } in
     new ∙ ap after_publish c.self.view_is
+
+pub returns-clause-limits_stay : goal.returns-clause-limits_stay
+returns-clause-limits_stay c = same_limits c ∙ ap (λ (a : Single). a.limits) c.self.view_is

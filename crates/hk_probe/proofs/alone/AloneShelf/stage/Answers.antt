@@ -46,3 +46,6 @@ returns-clause-staged c =
     let new : as_single (record { published = inside.published; roll = c.note.new.self; staged = c.push_reserved.new.self }) ≡ with_edit (as_single inside) c.args.edit =
     λ i. record { songs = songs_of inside.published; version = inside.published.version; staged = staged i; limits = same_limits c i } in
     ap shelf_of (new ∙ ap (λ (a : Single). with_edit a c.args.edit) c.self.view_is) ∙ shelf_staged c.args.self.now c.args.edit c.requires.change
+
+pub returns-clause-limits_stay : goal.returns-clause-limits_stay
+returns-clause-limits_stay c = same_limits c ∙ ap (λ (a : Single). a.limits) c.self.view_is
