@@ -102,3 +102,56 @@ fn a_failed_read_is_told_behind_the_prints(rt: HostRuntime) -> Result<(), Fail> 
     assert_eq!(rt; status, 5);
     Ok(())
 }
+
+// Pseudo-random samples of 16 bits, as tools/print_sound.py makes them.
+fn pseudo_random(alloc: Global, samples: u32) -> Result<Vec<u8>, Fail> {
+    let mut bytes = Vec::new(alloc);
+    let mut state: u64 = 17;
+    for _ in 0..samples {
+        state = state.wrapping_mul(1103515245).wrapping_add(12345) % 2147483648;
+        let part = (state / 32768).to_le_bytes();
+        bytes.push(part[0])?;
+        bytes.push(part[1] ^ 0x80)?;
+    }
+    Ok(bytes)
+}
+
+// A number that tells texts apart.
+fn digest(text: &str) -> u64 {
+    let mut digest: u64 = 0;
+    for byte in text.as_bytes() {
+        digest = digest
+            .wrapping_mul(6364136223846793005)
+            .wrapping_add(u64::from(*byte));
+    }
+    digest
+}
+
+// The digest of the 312 lines of four seconds in stereo is the one that tools/print_sound.py tells.
+#[test]
+fn pseudo_random_sound_in_any_pieces(rt: HostRuntime) -> Result<(), Fail> {
+    let alloc = rt.alloc();
+    for size in [1, 3, 4096] {
+        let mut devices = Devices::new(alloc);
+        for _ in 0..705600 {
+            devices.cuts.push(size)?;
+        }
+        let (status, text) = played_with(
+            alloc,
+            &["print", "--channels", "2"],
+            pseudo_random(alloc, 352800)?,
+            devices,
+        )?;
+        assert!(rt;
+            text.as_str()
+                .starts_with("0 995b52d1 00101104\n1 9d1b53d3 04400102\n")
+        );
+        assert_eq!(rt;
+            digest(text.as_str()),
+            9845803479844485538,
+            "pieces of {size}"
+        );
+        assert_eq!(rt; status, 0);
+    }
+    Ok(())
+}

@@ -22,10 +22,10 @@ pub start-requires-clause-few_channels : goal.start-requires-clause-few_channels
 start-requires-clause-few_channels c = by_some_text c.args.self.now.wire c.args.byte (item.Hello c.in-Hello.form) c.in-Hello.ensures.item c.args.self.now.ring c.args.self.now.sound c.args.self.now.segment c.args.self.now.blocks c.args.self.now.in_step (λ limit text says. channels_fit c.in-Hello.form limit text c.args.byte says)
 
 pub start-requires-clause-some_factor : goal.start-requires-clause-some_factor
-start-requires-clause-some_factor c = by_some_text c.args.self.now.wire c.args.byte (item.Hello c.in-Hello.form) c.in-Hello.ensures.item c.args.self.now.ring c.args.self.now.sound c.args.self.now.segment c.args.self.now.blocks c.args.self.now.in_step (λ limit text says. (factor_fits c.in-Hello.form limit text c.args.byte says).0)
+start-requires-clause-some_factor c = let fits : 1 ≤ c.in-Hello.form.factor = by_some_text c.args.self.now.wire c.args.byte (item.Hello c.in-Hello.form) c.in-Hello.ensures.item c.args.self.now.ring c.args.self.now.sound c.args.self.now.segment c.args.self.now.blocks c.args.self.now.in_step (λ limit text says. (factor_fits c.in-Hello.form limit text c.args.byte says).0) in omega (arith, fits)
 
 pub start-requires-clause-small_factor : goal.start-requires-clause-small_factor
-start-requires-clause-small_factor c = by_some_text c.args.self.now.wire c.args.byte (item.Hello c.in-Hello.form) c.in-Hello.ensures.item c.args.self.now.ring c.args.self.now.sound c.args.self.now.segment c.args.self.now.blocks c.args.self.now.in_step (λ limit text says. (factor_fits c.in-Hello.form limit text c.args.byte says).1)
+start-requires-clause-small_factor c = let fits : c.in-Hello.form.factor ≤ 8 = by_some_text c.args.self.now.wire c.args.byte (item.Hello c.in-Hello.form) c.in-Hello.ensures.item c.args.self.now.ring c.args.self.now.sound c.args.self.now.segment c.args.self.now.blocks c.args.self.now.in_step (λ limit text says. (factor_fits c.in-Hello.form limit text c.args.byte says).1) in omega (arith, fits)
 
 pub invariant_of-self-then-form-ne0 : goal.invariant_of-self-then-form-ne0
 invariant_of-self-then-form-ne0 c = record {
@@ -88,7 +88,7 @@ pub invariant_of-self-in-Gap : goal.invariant_of-self-in-Gap
 invariant_of-self-in-Gap c = record {
   limit = subst (λ n. n ≤ MOST_BYTES) (sym c.push.ensures.limit_stays) c.args.self.now.limit;
   in_step = stays_in_step c.args.self.now.wire c.push.new.self c.args.byte c.in-Gap.ensures.taken c.in-Gap.ensures.limit_stays item.Gap c.in-Gap.ensures.item c.args.self.now.ring c.args.self.now.sound c.args.self.now.segment c.args.self.now.blocks
-      c.reset.new.self c.args.self.now.sound (c.args.self.now.segment + 1) c.args.self.now.blocks refl (omega (arith, c.reset.ensures.empty.count)) (omega arith) (omega arith) (refl) c.args.self.now.in_step;
+      _ c.args.self.now.sound _ c.args.self.now.blocks refl (omega (arith, c.reset.ensures.empty.count)) (omega arith) (omega arith) (refl) c.args.self.now.in_step;
 }
 
 pub invariant_of-self-in-Fault-1 : goal.invariant_of-self-in-Fault-1

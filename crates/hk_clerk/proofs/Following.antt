@@ -1,0 +1,432 @@
+-- What a byte is for an operator that stands for a clerk and a desk.
+use Rattle.std.proofs.Common.{◌≡◌, ℕ, ◌+◌, ◌^◌, ◌<◌, ◌≤◌, inl, inr, List, [], ◌∷◌, ◌++◌, length, drop, refl, sym, ◌∙◌, ap, subst, arith, length-append, append-nil, true, false, Option, Some, None, cond}
+use Rattle.std.specs.Prelude.{◌==◌, ◌||◌, ◌⊎◌, is_some, slice_index, unwrap_or}
+use Rattle.std.specs.Option.{option_map_or, option_or}
+use Rattle.std.specs.List.{cons_option}
+use Rattle.std.proofs.lemmas.Bool.{cases_lt, eqb-true, both_ways}
+use Rattle.hk_base.specs.declared.plain.OpEnd.{OpEnd}
+use Rattle.hk_base.specs.declared.plain.OpEnd.TheVariants as op_ends
+use Rattle.hk_base.specs.declared.plain.WireFault.{WireFault}
+use Rattle.hk_base.specs.declared.plain.WireFault.TheVariants.{Cut, TooLong}
+use Rattle.hk_spec_streams.specs.Pieces.{completed, pieces_within}
+use Rattle.hk_spec_streams.specs.Grammar.{packets, ends_at_start}
+use Rattle.hk_spec_streams.specs.Operator.{Command, command_for, operator_grammar, operator_met, operator_fault, operator_wrong, commands}
+use Rattle.hk_spec_streams.proofs.Completing.{completed-append}
+use Rattle.hk_spec_streams.proofs.GrowingCommands.{whole_command, commands-append}
+use Rattle.hk_spec_runs.specs.Desk.{Rules, Desk}
+use Rattle.hk_spec_runs.specs.Replay.{Clerk, operator_end_of}
+use Rattle.hk_block.specs.Looker.{ShelfView}
+use Rattle.hk_operator_wire.specs.declared.wire.OpWire.{OpWire}
+use Rattle.hk_operator_wire.specs.declared.item.OpItem.{OpItem}
+use Rattle.hk_operator_wire.specs.declared.item.OpItem.TheVariants as items
+use Rattle.hk_operator_wire.specs.Items.{last_command, item_of, op_item_at, brought, is_whole_command}
+use Rattle.hk_operator_wire.specs.Heads.{head_of, head_fault}
+use Rattle.hk_operator_wire.specs.Taken.{HasTaken, limit_of, fault_met}
+use Rattle.hk_operator_wire.proofs.Reading.{next_bytes, last_command-next, in_hello, hello_stays, packet_met, too_long}
+use Rattle.hk_operator_wire.proofs.Taking.{fault_is, item_at_fault, item_at_none}
+use Rattle.hk_clerk.specs.Parts.{part_of, ends}
+use Rattle.hk_clerk.specs.Draft.{IsDraft, Drafts, draft_after}
+use Rattle.hk_clerk.specs.Sound.{IsRecording, sound_in, sound_of, sound_there, sound_ahead}
+use Rattle.hk_clerk.specs.Obeying.{Pushes, IsInOrder, HasObeyed, HasMet, IsAtEnd, IsObeying, IsDesk, clerk_after, new_commands, end_in, IsAnswered, next_number, counted}
+use Rattle.hk_clerk.specs.declared.done.Done.{Done}
+use Rattle.hk_clerk.specs.declared.done.Done.TheVariants.{More, Reply, Publish as Published, Over}
+use Rattle.hk_clerk.specs.declared.operator.Operator.{Operator}
+use Rattle.hk_clerk.specs.declared.draft.Draft.{Draft}
+use Rattle.hk_clerk.specs.declared.recorder.Recorder.{Recorder}
+use Rattle.hk_clerk.proofs.Coming.{next_in_order, nothing_in_order}
+use Rattle.hk_clerk.proofs.Drafting.{part_is, ends_is, not_fault, next_draft, no_draft, next_sound, room_stays, IsWhole, whole_is}
+
+maybe : {A : Type 0} (o : Option A) → (o ≡ None) ⊎ ((x : A) × (o ≡ Some x))
+maybe None = inl refl
+maybe (Some x) = inr (x, refl)
+
+same_fault_in : (f g : WireFault) → items.Fault f ≡ items.Fault g → f ≡ g
+same_fault_in f g is = cc
+
+-- an answer by other words
+pub answered_as : (rules : Rules) (desk : Desk) (n m : ℕ) (c : Command) (done : Done) (Leaves Leaves' : Desk → Type 0) → n ≡ m → ((now : Desk) → Leaves now → Leaves' now)
+    → IsAnswered rules desk n (c ∷ []) done Leaves → IsAnswered rules desk m (c ∷ []) done Leaves'
+answered_as rules desk n m c More Leaves Leaves' same on is = is
+answered_as rules desk n m c (Over e) Leaves Leaves' same on is = is
+answered_as rules desk n m c (Reply r) Leaves Leaves' same on is = (is.0, is.1, is.2 ∙ same, is.3, on _ is.4)
+answered_as rules desk n m c (Published k) Leaves Leaves' same on is = (is.0, is.1, is.2 ∙ same, on _ is.3)
+
+no_end : (rules : Rules) (desk : Desk) (n : ℕ) (c : Command) (done : Done) (Leaves : Desk → Type 0) → IsAnswered rules desk n (c ∷ []) done Leaves → end_in done ≡ None
+no_end rules desk n c More Leaves is = absurd is
+no_end rules desk n c (Over e) Leaves is = absurd is
+no_end rules desk n c (Reply r) Leaves is = refl
+no_end rules desk n c (Published k) Leaves is = refl
+
+module _ (rules : Rules) (clerk : Clerk) (b : ℕ) where
+  abbrev used_more : List ℕ
+  used_more = clerk.used ++ b ∷ []
+
+  after_by : (end : Option OpEnd) (met : Option WireFault) → Clerk
+  after_by end met = cond (is_some end) clerk
+      (option_map_or (λ fault. record { used = clerk.used; end = Some (op_ends.Wire fault) }) met (record { used = used_more; end = None }))
+
+  after_is : (end : Option OpEnd) (met : Option WireFault) → clerk.end ≡ end → operator_met rules.bytes used_more ≡ met → clerk_after rules clerk b ≡ after_by end met
+  unfolding after_by
+  after_is end met e m = ap (λ x. after_by x (operator_met rules.bytes used_more)) e ∙ ap (after_by end) m
+
+  over_stays : (end : OpEnd) → clerk.end ≡ Some end → clerk_after rules clerk b ≡ clerk
+  unfolding after_by
+  over_stays end is = after_is (Some end) (operator_met rules.bytes used_more) is refl
+
+  fault_ends : (fault : WireFault) → clerk.end ≡ None → operator_met rules.bytes used_more ≡ Some fault → clerk_after rules clerk b ≡ record { used = clerk.used; end = Some (op_ends.Wire fault) }
+  unfolding after_by
+  fault_ends fault going met = after_is None (Some fault) going met
+
+  byte_used : clerk.end ≡ None → operator_met rules.bytes used_more ≡ None → clerk_after rules clerk b ≡ record { used = used_more; end = None }
+  unfolding after_by
+  byte_used going met = after_is None None going met
+
+  commands_by : (after : Clerk) → clerk_after rules clerk b ≡ after → new_commands rules clerk b ≡ cond (is_some after.end) [] (completed commands used_more)
+  commands_by after is = ap (λ (c : Clerk). cond (is_some c.end) [] (completed commands used_more)) is
+
+  pub commands_now : clerk.end ≡ None → operator_met rules.bytes used_more ≡ None → new_commands rules clerk b ≡ cons_option (whole_command (last_command used_more)) []
+  commands_now going met =
+      commands_by (record { used = used_more; end = None }) (byte_used going met)
+      ∙ completed-append commands clerk.used b (cons_option (whole_command (last_command used_more)) []) (commands-append clerk.used b)
+
+module _ (rules : Rules) (op : Operator) (view : ShelfView) (clerk : Clerk) (desk : Desk) (b : ℕ) (h : IsObeying rules op view clerk desk)
+    (wire : OpWire) (item : OpItem) (pushes : Pushes op.wire b wire item) where
+  abbrev used : List ℕ
+  used = clerk.used ++ b ∷ []
+
+  abbrev bytes : List ℕ
+  bytes = last_command (clerk.used ++ b ∷ [])
+
+  limit_now : limit_of wire ≡ rules.bytes
+  limit_now = pushes.limit ∙ h.limit
+
+  at_end : (end : Option OpEnd) → clerk.end ≡ end → IsAtEnd rules op clerk.used desk.song end
+  at_end end is = subst (IsAtEnd rules op clerk.used desk.song) is h.stream
+
+  item_at : HasObeyed rules op clerk.used desk.song → item ≡ op_item_at rules.bytes used
+  item_at obeyed = pushes.item_is clerk.used obeyed.taken ∙ ap (λ n. op_item_at n used) h.limit
+
+  in_order : HasObeyed rules op clerk.used desk.song → operator_met rules.bytes used ≡ None → item ≡ item_of bytes
+  in_order obeyed none = item_at obeyed ∙ item_at_none rules.bytes used (fault_is rules.bytes clerk.used b obeyed.no_fault ∙ none)
+
+  faulty : HasObeyed rules op clerk.used desk.song → (fault : WireFault) → operator_met rules.bytes used ≡ Some fault → item ≡ items.Fault fault
+  faulty obeyed fault met = item_at obeyed ∙ item_at_fault rules.bytes used fault (fault_is rules.bytes clerk.used b obeyed.no_fault ∙ met)
+
+  -- the byte meets a fault, or met one before
+  module _ (fault : WireFault) (is : item ≡ items.Fault fault) where
+    abbrev now : Operator
+    now = record op { wire = wire }
+
+    abbrev Ended : Type 0
+    Ended = (clerk_after rules clerk b).end ≡ Some (op_ends.Wire fault)
+
+    abbrev Obeys : Type 0
+    Obeys = IsObeying rules now view (clerk_after rules clerk b) desk
+
+    obeying_as : (after : Clerk) → clerk_after rules clerk b ≡ after → after.used ≡ clerk.used → IsAtEnd rules now clerk.used desk.song after.end
+        → (end : OpEnd) → after.end ≡ Some end → Obeys × (new_commands rules clerk b ≡ [])
+    obeying_as after same same_used stream end over = (
+      subst (λ (c : Clerk). IsObeying rules now view c desk) (sym same) (record {
+        fixed = h.fixed;
+        stream = subst (λ u. IsAtEnd rules now u desk.song after.end) (sym same_used) stream;
+        shelf = h.shelf;
+        number = h.number ∙ ap (λ u. length (commands u)) (sym same_used);
+        limit = limit_now;
+        short = h.short;
+        room = h.room;
+        song_room = h.song_room;
+      }),
+      commands_by rules clerk b after same ∙ ap (λ e. cond (is_some e) [] (completed commands used)) over,
+    )
+
+    met_now : HasObeyed rules op clerk.used desk.song → (f : WireFault) → operator_met rules.bytes used ≡ Some f → HasMet rules now f
+    met_now obeyed f met =
+        let taken : HasTaken wire used = pushes.taken clerk.used obeyed.taken in
+        let found : operator_fault rules.bytes used ≡ Some f = fault_is rules.bytes clerk.used b obeyed.no_fault ∙ met in
+        record {
+          kept = taken.keeps.fault_is ∙ ap (λ n. operator_fault n used) limit_now ∙ found;
+          text = used;
+          taken = taken;
+          met = found;
+        }
+
+    over_by : (end : Option OpEnd) → clerk.end ≡ end → Ended × (Obeys × (new_commands rules clerk b ≡ []))
+    over_by None going =
+        let obeyed : HasObeyed rules op clerk.used desk.song = at_end None going in
+        elim (maybe (operator_met rules.bytes used)) [
+          | inl none ↦ absurd (not_fault bytes fault (sym (in_order obeyed none) ∙ is))
+          | inr some ↦
+              let same : some.0 ≡ fault = same_fault_in some.0 fault (sym (faulty obeyed some.0 some.1) ∙ is) in
+              let met : operator_met rules.bytes used ≡ Some fault = some.1 ∙ ap (λ f. Some f) same in
+              let after = fault_ends rules clerk b fault going met in (
+                ap (λ (c : Clerk). c.end) after,
+                obeying_as (record { used = clerk.used; end = Some (op_ends.Wire fault) }) after refl (met_now obeyed fault met) (op_ends.Wire fault) refl,
+              )
+        ]
+    over_by (Some (op_ends.Wire f)) over =
+        let hm : HasMet rules op f = at_end (Some (op_ends.Wire f)) over in
+        let same : f ≡ fault = same_fault_in f fault (sym (pushes.same_fault f hm.kept) ∙ is) in
+        let stays : wire ≡ op.wire = pushes.stays f hm.kept in
+        let after = over_stays rules clerk b (op_ends.Wire f) over in
+        let kept : HasMet rules now f = subst (λ (w : OpWire). HasMet rules (record op { wire = w }) f) (sym stays) hm in (
+          ap (λ (c : Clerk). c.end) after ∙ over ∙ ap (λ g. Some (op_ends.Wire g)) same,
+          obeying_as clerk after refl (subst (IsAtEnd rules now clerk.used desk.song) (sym over) kept) (op_ends.Wire f) over,
+        )
+    over_by (Some op_ends.Ended) over = absurd (at_end (Some op_ends.Ended) over)
+    over_by (Some op_ends.ReadFault) over = absurd (at_end (Some op_ends.ReadFault) over)
+    over_by (Some op_ends.SinkFault) over = absurd (at_end (Some op_ends.SinkFault) over)
+
+    pub fault_over : Some (op_ends.Wire fault) ≡ (clerk_after rules clerk b).end
+    fault_over = sym (over_by clerk.end refl).0
+
+    pub fault_answered : (n : ℕ) → IsAnswered rules desk n (new_commands rules clerk b) (Over (op_ends.Wire fault)) (IsObeying rules now view (clerk_after rules clerk b))
+    fault_answered n =
+        let by = over_by clerk.end refl in
+        subst (λ cs. IsAnswered rules desk n cs (Over (op_ends.Wire fault)) (IsObeying rules now view (clerk_after rules clerk b))) (sym by.1.1) by.1.0
+
+  met_by : (end : Option OpEnd) → is_some end ≡ true → clerk.end ≡ end → (fault : WireFault) × (fault_met op.wire ≡ Some fault)
+  met_by None some is = absurd (both_ways false refl some)
+  met_by (Some (op_ends.Wire f)) some is = let hm : HasMet rules op f = at_end (Some (op_ends.Wire f)) is in (f, hm.kept)
+  met_by (Some op_ends.Ended) some is = absurd (at_end (Some op_ends.Ended) is)
+  met_by (Some op_ends.ReadFault) some is = absurd (at_end (Some op_ends.ReadFault) is)
+  met_by (Some op_ends.SinkFault) some is = absurd (at_end (Some op_ends.SinkFault) is)
+
+  -- one that is over stays as it is
+  pub over_same : is_some clerk.end ≡ true → record op { wire = wire } ≡ op
+  over_same some = let met = met_by clerk.end some refl in ap (λ (w : OpWire). record op { wire = w }) (pushes.stays met.0 met.1)
+
+  pub never_on : ((fault : WireFault) → item ≡ items.Fault fault → ⊥) → is_some clerk.end ≡ true → ⊥
+  never_on known some = let met = met_by clerk.end some refl in known met.0 (pushes.same_fault met.0 met.1)
+
+  -- the byte meets no fault
+  record IsOn : Type 0 where
+    going : clerk.end ≡ None
+    obeyed : HasObeyed rules op clerk.used desk.song
+    met : operator_met rules.bytes used ≡ None
+    item_is : item ≡ item_of bytes
+    order : IsInOrder bytes
+    draft : IsDraft (draft_after op.draft (part_of item)) bytes
+    sound : sound_there bytes ≡ sound_ahead (last_command clerk.used) ++ sound_in (part_of item)
+    below : length clerk.used < rules.bytes
+
+  below_limit : operator_met rules.bytes used ≡ None → length clerk.used < rules.bytes
+  below_limit none = elim (cases_lt (length clerk.used) rules.bytes) [
+    | inl below ↦ below
+    | inr past ↦ absurd (let no_fault : None ≡ Some (TooLong rules.bytes) = sym none ∙ too_long rules.bytes clerk.used b past in cc)
+  ]
+
+  hello_on : clerk.end ≡ None → HasObeyed rules op clerk.used desk.song → operator_met rules.bytes used ≡ None → length clerk.used < 4 → IsOn
+  hello_on going obeyed none short =
+      let nothing : bytes ≡ [] = hello_stays clerk.used b short in
+      let before : last_command clerk.used ≡ [] = in_hello clerk.used (omega arith) in
+      let part : part_of item ≡ items.Nothing = ap part_of (in_order obeyed none) ∙ ap (λ xs. part_of (item_of xs)) nothing in
+      record {
+        going = going;
+        obeyed = obeyed;
+        met = none;
+        item_is = in_order obeyed none;
+        order = subst IsInOrder (sym nothing) nothing_in_order;
+        draft = subst (IsDraft (draft_after op.draft (part_of item))) (sym nothing) (no_draft (draft_after op.draft (part_of item)));
+        sound = ap sound_there nothing ∙ sym (ap (λ xs. sound_ahead xs ++ sound_in (part_of item)) before ∙ ap sound_in part);
+        below = below_limit none;
+      }
+
+  command_on : clerk.end ≡ None → HasObeyed rules op clerk.used desk.song → operator_met rules.bytes used ≡ None → 4 ≤ length clerk.used → IsOn
+  command_on going obeyed none far =
+      let before : List ℕ = last_command clerk.used in
+      let next : bytes ≡ next_bytes (last_command clerk.used) b = last_command-next clerk.used b far in
+      let head : head_fault (length clerk.used) (head_of (next_bytes before b)) ≡ None =
+      sym (packet_met rules.bytes clerk.used b (next_bytes before b) far (below_limit none) next) ∙ none in
+      let part : part_of item ≡ brought (next_bytes before b) = ap part_of (in_order obeyed none) ∙ part_is bytes ∙ ap brought next in
+      record {
+        going = going;
+        obeyed = obeyed;
+        met = none;
+        item_is = in_order obeyed none;
+        order = subst IsInOrder (sym next) (next_in_order (length clerk.used) before b obeyed.command head);
+        draft = subst (λ i. IsDraft (draft_after op.draft i) bytes) (sym part)
+            (subst (IsDraft (draft_after op.draft (brought (next_bytes before b)))) (sym next) (next_draft op.draft before b obeyed.draft));
+        sound = ap sound_there next ∙ next_sound before b ∙ ap (λ i. sound_ahead before ++ sound_in i) (sym part);
+        below = below_limit none;
+      }
+
+  goes_by : ((fault : WireFault) → item ≡ items.Fault fault → ⊥) → (end : Option OpEnd) → clerk.end ≡ end → IsOn
+  goes_by known None going =
+      let obeyed : HasObeyed rules op clerk.used desk.song = at_end None going in
+      elim (maybe (operator_met rules.bytes used)) [
+        | inl none ↦ elim (cases_lt (length clerk.used) 4) [ inl short ↦ hello_on going obeyed none short | inr far ↦ command_on going obeyed none far ]
+        | inr some ↦ absurd (known some.0 (faulty obeyed some.0 some.1))
+      ]
+  goes_by known (Some (op_ends.Wire f)) over =
+      let hm : HasMet rules op f = at_end (Some (op_ends.Wire f)) over in
+      absurd (known f (pushes.same_fault f hm.kept))
+  goes_by known (Some op_ends.Ended) over = absurd (at_end (Some op_ends.Ended) over)
+  goes_by known (Some op_ends.ReadFault) over = absurd (at_end (Some op_ends.ReadFault) over)
+  goes_by known (Some op_ends.SinkFault) over = absurd (at_end (Some op_ends.SinkFault) over)
+
+  module _ (known : (fault : WireFault) → item ≡ items.Fault fault → ⊥) (part : OpItem) (part_eq : part ≡ part_of item)
+      (draft : Draft) (draft_eq : draft ≡ draft_after op.draft part) (recorder : Recorder)
+      (hears : (sound : List ℕ) → IsRecording rules op.recorder desk.song sound → IsRecording rules recorder desk.song (sound ++ sound_in part))
+      (song_room : recorder.words.room ≡ op.recorder.words.room) where
+    abbrev mid : Operator
+    mid = record op { wire = wire; draft = draft; recorder = recorder }
+
+    on : IsOn
+    on = goes_by known clerk.end refl
+
+    draft_now : IsDraft draft bytes
+    draft_now = subst (λ d. IsDraft d bytes) (sym (draft_eq ∙ ap (draft_after op.draft) part_eq)) on.draft
+
+    recording : IsRecording rules recorder desk.song (sound_there bytes)
+    recording = subst (IsRecording rules recorder desk.song) (sym (on.sound ∙ ap (λ p. sound_ahead (last_command clerk.used) ++ sound_in p) (sym part_eq)))
+        (hears (sound_ahead (last_command clerk.used)) on.obeyed.recording)
+
+    draft_room : draft.words.room ≡ rules.limits.positions
+    draft_room = ap (λ (d : Draft). d.words.room) draft_eq ∙ room_stays op.draft part ∙ h.room
+
+    whole_ends : ends item ≡ is_whole_command bytes
+    whole_ends = ap ends on.item_is ∙ ends_is bytes
+
+    used_now : clerk_after rules clerk b ≡ record { used = used; end = None }
+    used_now = byte_used rules clerk b on.going on.met
+
+    obeyed_now : (operator : Operator) (now : Desk) → operator.wire ≡ wire → operator.draft ≡ draft
+        → IsRecording rules operator.recorder now.song (sound_ahead bytes) → HasObeyed rules operator used now.song
+    obeyed_now operator now same_wire same_draft heard =
+        let few : length (commands clerk.used) ≤ length clerk.used = on.obeyed.few in
+        record {
+          taken = subst (λ (w : OpWire). HasTaken w used) (sym same_wire) (pushes.taken clerk.used on.obeyed.taken);
+          no_fault = fault_is rules.bytes clerk.used b on.obeyed.no_fault ∙ on.met;
+          command = on.order;
+          draft = subst (λ d. IsDraft d bytes) (sym same_draft) draft_now;
+          recording = heard;
+          few = omega (arith, few, length-append clerk.used (b ∷ []), grown);
+        }
+      where
+        by : (o : Option Command) → length (cons_option o []) ≤ 1
+        by None = omega arith
+        by (Some c) = omega arith
+
+        grown : length (commands (clerk.used ++ b ∷ [])) ≤ length (commands clerk.used) + 1
+        grown =
+            let more : length (commands (clerk.used ++ b ∷ [])) ≡ length (commands clerk.used ++ cons_option (whole_command bytes) []) = ap length (commands-append clerk.used b) in
+            let sum : length (commands clerk.used ++ cons_option (whole_command bytes) []) ≡ length (commands clerk.used) + length (cons_option (whole_command bytes) []) =
+            length-append (commands clerk.used) (cons_option (whole_command bytes) []) in
+            let one : length (cons_option (whole_command bytes) []) ≤ 1 = by (whole_command bytes) in
+            omega (arith, more, sum, one)
+
+    -- no command ends
+    module _ (open_yet : ends item ≡ false) where
+      open_command : is_whole_command bytes ≡ false
+      open_command = sym whole_ends ∙ open_yet
+
+      no_command : whole_command bytes ≡ None
+      no_command = ap (λ t. cond t (command_for (slice_index bytes 0) (drop 5 bytes)) None) open_command
+
+      ahead : sound_ahead bytes ≡ sound_there bytes
+      ahead = ap (λ t. cond t [] (sound_there bytes)) open_command
+
+      same_number : length (commands clerk.used) ≡ length (commands used)
+      same_number = ap length (sym (commands-append clerk.used b ∙ ap (λ o. commands clerk.used ++ cons_option o []) no_command ∙ append-nil (commands clerk.used)))
+
+      more_obeys : IsObeying rules mid view (record { used = used; end = None }) desk
+      more_obeys = record {
+        fixed = h.fixed;
+        stream = obeyed_now mid desk refl refl (subst (IsRecording rules recorder desk.song) (sym ahead) recording);
+        shelf = h.shelf;
+        number = h.number ∙ same_number;
+        limit = limit_now;
+        short = h.short;
+        room = draft_room;
+        song_room = song_room ∙ h.song_room;
+      }
+
+      pub more_over : None ≡ (clerk_after rules clerk b).end
+      more_over = sym (ap (λ (c : Clerk). c.end) used_now)
+
+      pub more_answered : (n : ℕ) → IsAnswered rules desk n (new_commands rules clerk b) More (IsObeying rules mid view (clerk_after rules clerk b))
+      more_answered n =
+          subst (λ cs. IsAnswered rules desk n cs More (IsObeying rules mid view (clerk_after rules clerk b)))
+          (sym (commands_now rules clerk b on.going on.met ∙ ap (λ o. cons_option o []) no_command))
+          (subst (λ (c : Clerk). IsObeying rules mid view c desk) (sym used_now) more_obeys)
+
+    -- a command ends
+    module _ (last : ends item ≡ true) where
+      whole_command_is : is_whole_command bytes ≡ true
+      whole_command_is = sym whole_ends ∙ last
+
+      pub whole : IsWhole draft bytes
+      whole = whole_is draft bytes on.order draft_now (eqb-true _ _ whole_command_is)
+
+      none_ahead : sound_ahead bytes ≡ []
+      none_ahead = ap (λ t. cond t [] (sound_there bytes)) whole_command_is
+
+      one_more : length (commands used) ≡ length (commands clerk.used) + 1
+      one_more = ap length (commands-append clerk.used b ∙ ap (λ o. commands clerk.used ++ cons_option o []) whole.is) ∙ length-append (commands clerk.used) (whole.command ∷ [])
+
+      number_is : next_number mid ≡ length (commands clerk.used) + 1
+      number_is =
+          let few : length (commands clerk.used) ≤ length clerk.used = on.obeyed.few in
+          let short : rules.bytes < 2 ^ 64 = h.short in
+          let now : op.commands ≡ length (commands clerk.used) = h.number in
+          let below : length clerk.used < rules.bytes = on.below in
+          omega (arith, few, short, now, below)
+
+      pub desk_is : IsDesk rules mid view desk (sound_of whole.command)
+      desk_is = record {
+        fixed = h.fixed;
+        recording = subst (IsRecording rules recorder desk.song) (sym whole.sound) recording;
+        shelf = h.shelf;
+        room = draft_room;
+        song_room = song_room ∙ h.song_room;
+      }
+
+      obeys : (new : Operator) (view' : ShelfView) → new ≡ counted mid new.recorder → (now : Desk) → IsDesk rules new view' now [] → IsObeying rules new view' (clerk_after rules clerk b) now
+      obeys new view' kept now at = subst (λ (c : Clerk). IsObeying rules new view' c now) (sym used_now) (record {
+        fixed = at.fixed;
+        stream = obeyed_now new now (ap (λ (o : Operator). o.wire) kept) (ap (λ (o : Operator). o.draft) kept)
+            (subst (IsRecording rules new.recorder now.song) (sym none_ahead) at.recording);
+        shelf = at.shelf;
+        number = ap (λ (o : Operator). o.commands) kept ∙ number_is ∙ sym one_more;
+        limit = ap (λ (o : Operator). limit_of o.wire) kept ∙ limit_now;
+        short = h.short;
+        room = at.room;
+        song_room = at.song_room;
+      })
+
+      module _ (new : Operator) (view' : ShelfView) (kept : new ≡ counted mid new.recorder) (done : Done)
+          (answered : (command : Command) → IsDesk rules mid view desk (sound_of command) → Drafts draft command
+          → IsAnswered rules desk (next_number mid) (command ∷ []) done (λ now. IsDesk rules new view' now [])) where
+        pub command_over : end_in done ≡ (clerk_after rules clerk b).end
+        command_over = no_end rules desk (next_number mid) whole.command done (λ now. IsDesk rules new view' now []) (answered whole.command desk_is whole.draft)
+            ∙ sym (ap (λ (c : Clerk). c.end) used_now)
+
+        pub command_answered : IsAnswered rules desk (length (commands clerk.used) + 1) (new_commands rules clerk b) done (IsObeying rules new view' (clerk_after rules clerk b))
+        command_answered =
+            subst (λ cs. IsAnswered rules desk (length (commands clerk.used) + 1) cs done (IsObeying rules new view' (clerk_after rules clerk b)))
+            (sym (commands_now rules clerk b on.going on.met ∙ ap (λ o. cons_option o []) whole.is))
+            (answered_as rules desk (next_number mid) (length (commands clerk.used) + 1) whole.command done (λ now. IsDesk rules new view' now [])
+            (IsObeying rules new view' (clerk_after rules clerk b)) number_is (obeys new view' kept) (answered whole.command desk_is whole.draft))
+
+-- how the stream ends
+module _ (rules : Rules) (op : Operator) (view : ShelfView) (clerk : Clerk) (desk : Desk) (h : IsObeying rules op view clerk desk)
+    (wrong : Option WireFault) (tells : (text : List ℕ) → HasTaken op.wire text → wrong ≡ operator_wrong (limit_of op.wire) text) where
+  ended_by : (end : Option OpEnd) → clerk.end ≡ end → IsAtEnd rules op clerk.used desk.song end → option_map_or (λ fault. op_ends.Wire fault) wrong op_ends.Ended ≡ operator_end_of rules clerk
+  ended_by None going obeyed =
+      ap (λ w. option_map_or (λ fault. op_ends.Wire fault) w op_ends.Ended) (tells clerk.used obeyed.taken ∙ ap (λ n. operator_wrong n clerk.used) h.limit)
+      ∙ sym (ap (λ e. unwrap_or e (option_map_or (λ fault. op_ends.Wire fault) (operator_wrong rules.bytes clerk.used) op_ends.Ended)) going)
+  ended_by (Some (op_ends.Wire f)) over met =
+      let border : Option WireFault = cond ((length met.text == 0) || ends_at_start operator_grammar met.text) None (Some (Cut (length met.text))) in
+      ap (λ w. option_map_or (λ fault. op_ends.Wire fault) w op_ends.Ended)
+      (tells met.text met.taken ∙ ap (λ n. operator_wrong n met.text) h.limit ∙ ap (λ o. option_or o border) met.met)
+      ∙ sym (ap (λ e. unwrap_or e (option_map_or (λ fault. op_ends.Wire fault) (operator_wrong rules.bytes clerk.used) op_ends.Ended)) over)
+  ended_by (Some op_ends.Ended) over met = absurd met
+  ended_by (Some op_ends.ReadFault) over met = absurd met
+  ended_by (Some op_ends.SinkFault) over met = absurd met
+
+  pub ended_is : option_map_or (λ fault. op_ends.Wire fault) wrong op_ends.Ended ≡ operator_end_of rules clerk
+  ended_is = ended_by clerk.end refl h.stream
+
+pub no_commands : length (commands []) ≡ 0
+unfolding commands packets pieces_within
+no_commands = refl

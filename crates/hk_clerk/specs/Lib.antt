@@ -1,0 +1,7 @@
+pub mod Kept
+pub mod Inside
+pub mod Parts
+pub mod Draft
+pub mod Sound
+pub mod Desk
+pub mod Obeying

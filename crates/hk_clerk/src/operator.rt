@@ -1,0 +1,158 @@
+// The operator.
+ghost use Rattle.std.specs.Prelude.{◌≡◌, ◌≤◌, ◌^◌, ◌+◌, ℕ, [], ◌∷◌, length, IfOk, is_some, true};
+ghost use Rattle.hk_spec_streams.specs.Operator.{Command, Close, commands};
+ghost use Rattle.hk_spec_runs.specs.Desk.{Rules, Desk, new_desk, IsReply, after};
+ghost use Rattle.hk_spec_runs.specs.Replay.{Clerk, operator_end_of};
+ghost use Rattle.hk_block.specs.Looker.{ShelfView};
+ghost use Rattle.hk_clerk.specs.Desk.{IsAtDesk, StaysPublished};
+ghost use Rattle.hk_clerk.specs.Draft.{Drafts};
+ghost use Rattle.hk_clerk.specs.Sound.{IsFixed, sound_of};
+ghost use Rattle.hk_clerk.specs.Obeying.{Pushes};
+
+use crate::done::Done;
+use crate::draft::Draft;
+use crate::part::{ends, part_of};
+use crate::recorder::Recorder;
+use crate::staging;
+use hk_base::{NoMemory, OpEnd, Reason, Reply, What};
+use hk_catalogue::Shelf;
+use hk_operator_wire::{OpItem, OpWire};
+use std::alloc::Global;
+
+const ADD_WORDS: u8 = 1;
+
+const OPEN_SONG: u8 = 2;
+
+const AUDIO: u8 = 3;
+
+const CLOSE: u8 = 4;
+
+const WITHDRAW: u8 = 5;
+
+/// An operator's stream as far as it was obeyed: its wire, the open command, the open song, and the number of commands.
+#[derive(Drop)]
+pub struct Operator {
+    alloc: Global,
+    wire: OpWire,
+    draft: Draft,
+    recorder: Recorder,
+    commands: u64,
+}
+
+// What the wire gives for a byte.
+fn given(wire: &mut OpWire, byte: u8) -> OpItem
+    ensures { Pushes wire.old byte wire.new result }
+{
+    wire.push(byte)
+}
+
+fn reply(number: u64, what: What) -> Done
+    ensures { result ≡ Done.Reply (record { number = number; what = what }) }
+{
+    Done::Reply(Reply { number, what })
+}
+
+impl Operator {
+    ghost use Rattle.hk_clerk.specs.Obeying.{IsObeying, IsDesk, clerk_after, new_clerk, new_commands, end_in, IsAnswered, next_number, counted};
+
+    /// An operator that has taken nothing, for streams of at most `limit` bytes, and a shelf of `positions` words, 256 to
+    /// 2^24. It takes room for as many words of a command and of an open song, so that collecting them takes no memory.
+    pub fn new(alloc: Global, limit: u64, positions: u32) -> Result<Operator, NoMemory>
+        requires enough { 256 ≤ positions }
+        requires most { positions ≤ 2 ^ 24 }
+        ensures { IfOk result (λ operator. (rules : Rules) (view : ShelfView) → IsFixed rules → rules.bytes ≡ limit → rules.limits.positions ≡ positions
+            → IsAtDesk rules view new_desk → IsObeying rules operator view new_clerk new_desk) }
+    {
+        Ok(Operator {
+            alloc,
+            wire: OpWire::new(limit),
+            draft: Draft::new(alloc, positions)?,
+            recorder: Recorder::new(alloc, positions)?,
+            commands: 0,
+        })
+    }
+
+    /// Takes the stream's next byte. The last byte of a command stages its edit and gives its reply, or hands a publish to
+    /// the caller. After a fault each push answers that fault and changes nothing.
+    pub fn push<S: Shelf>(&mut self, byte: u8, shelf: &mut S) -> Done
+        ensures over { (rules : Rules) (clerk : Clerk) (desk : Desk) → IsObeying rules self.old (S.shelf shelf.old) clerk desk
+            → end_in result ≡ (clerk_after rules clerk byte).end }
+        ensures answered { (rules : Rules) (clerk : Clerk) (desk : Desk) → IsObeying rules self.old (S.shelf shelf.old) clerk desk
+            → IsAnswered rules desk (length (commands clerk.used) + 1) (new_commands rules clerk byte) result
+            (IsObeying rules self.new (S.shelf shelf.new) (clerk_after rules clerk byte)) }
+        ensures over_stays { (rules : Rules) (clerk : Clerk) (desk : Desk) → IsObeying rules self.old (S.shelf shelf.old) clerk desk
+            → is_some clerk.end ≡ true → (self.new ≡ self.old) × (shelf.new ≡ shelf.old) }
+        ensures published { StaysPublished (S.shelf shelf.old) (S.shelf shelf.new) }
+    {
+        let item = given(&mut self.wire, byte);
+        if let OpItem::Fault(fault) = item {
+            return Done::Over(OpEnd::Wire(fault));
+        }
+        let part = part_of(item);
+        self.draft.take(part);
+        self.recorder.take(part);
+        if ends(item) {
+            self.complete(shelf)
+        } else {
+            Done::More
+        }
+    }
+
+    // Obeys the command, which is whole.
+    fn complete<S: Shelf>(&mut self, shelf: &mut S) -> Done
+        ensures answered { (rules : Rules) (desk : Desk) (command : Command) → IsDesk rules self.old (S.shelf shelf.old) desk (sound_of command)
+            → Drafts self.old.draft command
+            → IsAnswered rules desk (next_number self.old) (command ∷ []) result (λ now. IsDesk rules self.new (S.shelf shelf.new) now []) }
+        ensures kept { self.new ≡ counted self.old self.new.recorder }
+        ensures published { StaysPublished (S.shelf shelf.old) (S.shelf shelf.new) }
+    {
+        let number = self.commands.saturating_add(1);
+        self.commands = number;
+        let id = self.draft.id;
+        match self.draft.kind {
+            ADD_WORDS => reply(
+                number,
+                staging::add(self.alloc, id, &self.draft.words, shelf),
+            ),
+            OPEN_SONG => reply(number, self.recorder.open(id, self.draft.form)),
+            AUDIO => reply(number, self.recorder.audio()),
+            CLOSE => reply(number, self.close(shelf)),
+            WITHDRAW => reply(number, staging::withdraw(id, shelf)),
+            _ => Done::Publish(number),
+        }
+    }
+
+    // Stages the open song, which is open no more.
+    fn close<S: Shelf>(&mut self, shelf: &mut S) -> What
+        ensures decided { (rules : Rules) (desk : Desk) → IsDesk rules self.old (S.shelf shelf.old) desk []
+            → IsReply rules desk Close result × IsDesk rules self.new (S.shelf shelf.new) (after rules desk Close result) [] }
+        ensures kept { self.new ≡ record self.old { recorder = self.new.recorder } }
+        ensures published { StaysPublished (S.shelf shelf.old) (S.shelf shelf.new) }
+    {
+        match self.recorder.song.take() {
+            Some(id) => staging::add(self.alloc, id, &self.recorder.words, shelf),
+            None => What::Refused(Reason::NoSongOpen),
+        }
+    }
+
+    /// How the stream ends here: by the fault that it met, with Ended where no byte came or the last command is whole, and
+    /// else with Cut. Changes nothing.
+    pub fn finish(&mut self) -> OpEnd
+        ensures end { (rules : Rules) (view : ShelfView) (clerk : Clerk) (desk : Desk) → IsObeying rules self.old view clerk desk
+            → result ≡ operator_end_of rules clerk }
+        ensures changes_nothing { self.new ≡ self.old }
+    {
+        match self.wire.finish() {
+            Ok(()) => OpEnd::Ended,
+            Err(fault) => OpEnd::Wire(fault),
+        }
+    }
+
+    /// How many commands were answered, publishes too.
+    pub fn commands(&self) -> u64
+        ensures { (rules : Rules) (view : ShelfView) (clerk : Clerk) (desk : Desk) → IsObeying rules self.now view clerk desk
+            → result ≡ length (commands clerk.used) }
+    {
+        self.commands
+    }
+}

@@ -1,0 +1,3 @@
+pub mod Feeding
+pub mod Hearing
+pub mod Outcomes
