@@ -82,7 +82,6 @@ pub enum Trouble {
     ReadFault,
     BadRecord(u64),
     TooLong(u64),
-    NotBuilt(u64),
 }
 
 /// What a report line says before its list.

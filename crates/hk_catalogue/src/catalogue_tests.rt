@@ -1,5 +1,5 @@
-// A catalogue of at most two songs and 600 words, by hand.
-ghost use Rattle.std.specs.Prelude.{◌≡◌, ◌≤◌, ◌<◌, ◌+◌, length};
+// Small catalogues by hand, and the greatest one.
+ghost use Rattle.std.specs.Prelude.{◌≡◌, ◌≤◌, ◌<◌};
 
 use crate::{Catalogue, Edit};
 use hk_base::Steps;
@@ -15,47 +15,94 @@ fn adding(alloc: Global, id: u32, word: u32, length: usize) -> Result<Edit, Allo
     Ok(Edit::Add(SongBlock::new(id, vec![in alloc; word; length]?)))
 }
 
-fn window_at<L: Ledger>(song: &Song<'_>, q: u32, blank: Blank) -> [u32; 256]
+// Whether a song has this id and so many words, of which the first and the last 256 are all `word`.
+fn is_song<L: Ledger>(song: &Song<'_>, is: (u32, u32, u32), blank: Blank) -> bool
     requires name { blank.name ≡ L.name }
     requires parts { blank.parts ≡ L.parts }
     requires some { 0 < L.parts }
-    requires within { q + 256 ≤ length song.now.words }
 {
+    let (id, word, length) = is;
+    let last_start = song.length() - 256;
     let mut steps: Steps<L> = Steps::new(blank);
-    let mut window = [0; 256];
-    song.window(q, &mut window, &mut steps);
-    window
+    let mut first = [0; 256];
+    let mut last = [0; 256];
+    song.window(0, &mut first, &mut steps);
+    song.window(last_start, &mut last, &mut steps);
+    song.id() == id && song.length() == length && first == [word; 256] && last == [word; 256]
 }
 
 #[test]
 fn slots_and_words_are_used_again(rt: HostRuntime) -> Result<(), AllocError> {
+    let Ok(mut catalogue) = Catalogue::new(rt.alloc(), 3, 900) else {
+        panic!(rt; "no memory");
+    };
+    // Each row is an edit, which adds a song of so many words or, with 0 words, withdraws one; and then the songs that
+    // are there, with an id of 0 for none.
+    let none = (0, 0, 0);
+    let rows = [
+        ((5, 1, 256), [(5, 1, 256), none, none]),
+        ((8, 2, 344), [(5, 1, 256), (8, 2, 344), none]),
+        ((2, 3, 301), [(5, 1, 256), (8, 2, 344), none]),
+        ((2, 3, 300), [(2, 3, 300), (5, 1, 256), (8, 2, 344)]),
+        ((9, 4, 256), [(2, 3, 300), (5, 1, 256), (8, 2, 344)]),
+        ((5, 0, 0), [(2, 3, 300), (8, 2, 344), none]),
+        ((5, 0, 0), [(2, 3, 300), (8, 2, 344), none]),
+        ((8, 5, 256), [(2, 3, 300), (8, 2, 344), none]),
+        ((9, 6, 257), [(2, 3, 300), (8, 2, 344), none]),
+        ((9, 6, 256), [(2, 3, 300), (8, 2, 344), (9, 6, 256)]),
+        ((8, 0, 0), [(2, 3, 300), (9, 6, 256), none]),
+        ((8, 7, 344), [(2, 3, 300), (8, 7, 344), (9, 6, 256)]),
+        ((2, 0, 0), [(8, 7, 344), (9, 6, 256), none]),
+        ((9, 0, 0), [(8, 7, 344), none, none]),
+        ((8, 0, 0), [none, none, none]),
+        ((1, 8, 901), [none, none, none]),
+        ((1, 8, 900), [(1, 8, 900), none, none]),
+    ];
+    for (row, (edit, songs)) in rows.iter().enumerate() {
+        let (id, word, length) = *edit;
+        if 256 <= length && length <= 1000 {
+            catalogue.absorb(&adding(rt.alloc(), id, word, length)?);
+        } else {
+            catalogue.absorb(&Edit::Withdraw(id));
+        }
+        let mut count = 0;
+        for song in songs.iter() {
+            if song.0 != 0 {
+                assert!(rt; count < catalogue.count(), "in row {row}");
+                assert!(rt;
+                    is_song::<Brand>(&catalogue.nth(count), *song, Blank::new(1)),
+                    "in row {row}"
+                );
+                count += 1;
+            }
+        }
+        assert_eq!(rt; catalogue.count(), count, "in row {row}");
+    }
+    Ok(())
+}
+
+#[test]
+fn songs_are_found_in_their_slots(rt: HostRuntime) -> Result<(), AllocError> {
     let Ok(mut catalogue) = Catalogue::new(rt.alloc(), 2, 600) else {
         panic!(rt; "no memory");
     };
     catalogue.absorb(&adding(rt.alloc(), 7, 1, 300)?);
-    catalogue.absorb(&adding(rt.alloc(), 3, 2, 301)?);
-    assert!(rt; catalogue.find(3).is_none());
-    catalogue.absorb(&adding(rt.alloc(), 3, 2, 300)?);
-    catalogue.absorb(&adding(rt.alloc(), 9, 3, 256)?);
-    assert_eq!(rt; catalogue.count(), 2);
     catalogue.absorb(&Edit::Withdraw(7));
-    catalogue.absorb(&Edit::Withdraw(7));
-    assert!(rt; catalogue.find(7).is_none());
-    catalogue.absorb(&adding(rt.alloc(), 9, 3, 300)?);
-    assert_eq!(rt; catalogue.version(), 0);
-    catalogue.absorb(&Edit::Seal);
-    assert_eq!(rt; catalogue.version(), 1);
-    assert_eq!(rt; catalogue.count(), 2);
-    let first = catalogue.nth(0);
-    let second = catalogue.nth(1);
-    assert_eq!(rt; (first.id(), first.length()), (3, 300));
-    assert_eq!(rt; (second.id(), second.length()), (9, 300));
-    assert_eq!(rt; window_at::<Brand>(&first, 44, Blank::new(1)), [2; 256]);
-    assert_eq!(rt; window_at::<Brand>(&second, 44, Blank::new(1)), [3; 256]);
-    let Some(slot) = catalogue.find(9) else {
+    catalogue.absorb(&adding(rt.alloc(), 7, 2, 256)?);
+    catalogue.absorb(&adding(rt.alloc(), 3, 3, 344)?);
+    assert!(rt; catalogue.find(5).is_none());
+    let Some(slot) = catalogue.find(7) else {
         panic!(rt; "no song");
     };
-    assert_eq!(rt; catalogue.song(slot).map(|song| song.id()), Some(9));
+    let Some(song) = catalogue.song(slot) else {
+        panic!(rt; "no song");
+    };
+    assert!(rt; is_song::<Brand>(&song, (7, 2, 256), Blank::new(1)));
+    assert!(rt; catalogue.song(2).is_none());
+    assert_eq!(rt; catalogue.version(), 0);
+    catalogue.absorb(&Edit::Seal);
+    catalogue.absorb(&Edit::Seal);
+    assert_eq!(rt; catalogue.version(), 2);
     Ok(())
 }
 

@@ -1,4 +1,4 @@
-// A roll of at most two songs, 1000 words and one version, by hand.
+// A roll of at most two songs, 1000 words and two versions, by hand.
 ghost use Rattle.std.specs.Prelude.{◌≤◌};
 
 use crate::{Edit, Refused, Roll};
@@ -34,7 +34,7 @@ fn adding(alloc: Global, id: u32, length: usize) -> Result<Edit, AllocError>
 
 #[test]
 fn edits_are_refused_with_their_numbers(rt: HostRuntime) -> Result<(), AllocError> {
-    let Ok(mut roll) = Roll::new(rt.alloc(), 2, 1000, 1) else {
+    let Ok(mut roll) = Roll::new(rt.alloc(), 2, 1000, 2) else {
         panic!(rt; "no memory");
     };
     assert_eq!(rt;
@@ -60,7 +60,10 @@ fn edits_are_refused_with_their_numbers(rt: HostRuntime) -> Result<(), AllocErro
         roll.check_add(9, 701),
         Err(Refused::PositionsFull(700, 701))
     );
+    assert_eq!(rt; done(&mut roll, &adding(rt.alloc(), 9, 700)?), Ok(()));
+    assert_eq!(rt; roll.check_add(9, 255), Err(Refused::Duplicate(9)));
     assert_eq!(rt; done(&mut roll, &Edit::Seal), Ok(()));
-    assert_eq!(rt; done(&mut roll, &Edit::Seal), Err(Refused::VersionsFull(1)));
+    assert_eq!(rt; done(&mut roll, &Edit::Seal), Ok(()));
+    assert_eq!(rt; done(&mut roll, &Edit::Seal), Err(Refused::VersionsFull(2)));
     Ok(())
 }

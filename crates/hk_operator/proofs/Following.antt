@@ -1,308 +1,432 @@
--- What a byte is for an operator that stands for a run.
-use Rattle.std.proofs.Common.{◌≡◌, ℕ, ◌+◌, ◌-◌, ◌^◌, ◌<◌, ◌≤◌, inl, inr, List, [], ◌∷◌, ◌++◌, length, take, refl, sym, ◌∙◌, ap, subst, arith, length-append, append-nil, Bool, true, false, Option, Some, None}
-use Rattle.std.specs.Prelude.{◌||◌, ◌&&◌, ◌⊎◌, not, slice_index, is_some}
-use Rattle.std.specs.Int.{w32}
+-- What a byte is for an operator that stands for a clerk and a desk.
+use Rattle.std.proofs.Common.{◌≡◌, ℕ, ◌+◌, ◌^◌, ◌<◌, ◌≤◌, inl, inr, List, [], ◌∷◌, ◌++◌, length, drop, refl, sym, ◌∙◌, ap, subst, arith, length-append, append-nil, true, false, Option, Some, None, cond}
+use Rattle.std.specs.Prelude.{◌==◌, ◌||◌, ◌⊎◌, is_some, slice_index, unwrap_or}
+use Rattle.std.specs.Option.{option_map_or, option_or}
 use Rattle.std.specs.List.{cons_option}
-use Rattle.hk_spec_matching.specs.Catalogue as songs
-use Rattle.std.proofs.lemmas.Bool.{cases_lt, le-leb, both_ways, or_parts}
-use Rattle.std.proofs.lemmas.List.{take_all}
-use Rattle.hk_base.specs.Devices.{Wrote}
-use Rattle.hk_base.specs.declared.plain.What.{What}
-use Rattle.hk_base.specs.declared.plain.What.TheVariants.{Done, Published}
+use Rattle.std.proofs.lemmas.Bool.{cases_lt, eqb-true, both_ways}
+use Rattle.hk_base.specs.declared.plain.OpEnd.{OpEnd}
+use Rattle.hk_base.specs.declared.plain.OpEnd.TheVariants as op_ends
 use Rattle.hk_base.specs.declared.plain.WireFault.{WireFault}
-use Rattle.hk_spec_streams.specs.Pieces.{first_that_holds}
-use Rattle.hk_spec_streams.specs.Grammar.{ends_at_start, packet_size}
-use Rattle.hk_spec_streams.specs.Operator.{Command, AddWords, Publish, operator_grammar, operator_met, commands}
-use Rattle.hk_spec_streams.proofs.GrowingPackets.{over}
-use Rattle.hk_spec_streams.proofs.GrowingCommands.{ends_at_start-is, whole_command, commands-append}
-use Rattle.hk_spec_lines.specs.Lines.{Printed, Replied}
-use Rattle.hk_spec_runs.specs.Desk.{Rules, refusals, after, success}
-use Rattle.hk_spec_runs.specs.Replay.{Scene, for_operator}
-use Rattle.hk_spec_runs.specs.Built.{built_operator, leaves_form, leaves_operator}
+use Rattle.hk_base.specs.declared.plain.WireFault.TheVariants.{Cut, TooLong}
+use Rattle.hk_spec_streams.specs.Pieces.{completed, pieces_within}
+use Rattle.hk_spec_streams.specs.Grammar.{packets, ends_at_start}
+use Rattle.hk_spec_streams.specs.Operator.{Command, command_for, operator_grammar, operator_met, operator_fault, operator_wrong, commands}
+use Rattle.hk_spec_streams.proofs.Completing.{completed-append}
+use Rattle.hk_spec_streams.proofs.GrowingCommands.{whole_command, commands-append}
+use Rattle.hk_spec_runs.specs.Desk.{Rules, Desk}
+use Rattle.hk_spec_runs.specs.Replay.{Clerk, operator_end_of}
+use Rattle.hk_block.specs.Looker.{ShelfView}
+use Rattle.hk_operator_wire.specs.declared.wire.OpWire.{OpWire}
 use Rattle.hk_operator_wire.specs.declared.item.OpItem.{OpItem}
 use Rattle.hk_operator_wire.specs.declared.item.OpItem.TheVariants as items
-use Rattle.hk_operator_wire.specs.Items.{last_command, item_of, op_item_at}
+use Rattle.hk_operator_wire.specs.Items.{last_command, item_of, op_item_at, brought, is_whole_command}
 use Rattle.hk_operator_wire.specs.Heads.{head_of, head_fault}
-use Rattle.hk_operator_wire.specs.Taken.{HasTaken, limit_of}
-use Rattle.hk_operator_wire.proofs.Reading.{next_bytes, last_command-next, in_hello, hello_stays, packet_met, either}
+use Rattle.hk_operator_wire.specs.Taken.{HasTaken, limit_of, fault_met}
+use Rattle.hk_operator_wire.proofs.Reading.{next_bytes, last_command-next, in_hello, hello_stays, packet_met, too_long}
 use Rattle.hk_operator_wire.proofs.Taking.{fault_is, item_at_fault, item_at_none}
-use Rattle.hk_plain.specs.Plain.{Plain, add_refusal, is_full_of_versions, with_staged, after_publish}
-use Rattle.hk_plain.proofs.Refusals.{IsAllowed, allowed}
-use Rattle.hk_report.specs.Fronts.{WroteFront}
-use Rattle.hk_operator.specs.declared.collected.Step.{Step}
-use Rattle.hk_operator.specs.declared.collected.Step.TheVariants as steps
-use Rattle.hk_operator.specs.declared.obeyed.Obeyed.{Obeyed}
-use Rattle.hk_operator.specs.declared.obeyed.Obeyed.TheVariants.{Going, NotBuilt, SinkFault}
+use Rattle.hk_operator.specs.Parts.{part_of, ends}
+use Rattle.hk_operator.specs.Draft.{IsDraft, Drafts, draft_after}
+use Rattle.hk_operator.specs.Sound.{IsRecording, sound_in, sound_of, sound_there, sound_ahead}
+use Rattle.hk_operator.specs.Obeying.{Pushes, IsInOrder, HasObeyed, HasMet, IsAtEnd, IsObeying, IsDesk, clerk_after, new_commands, end_in, IsAnswered, next_number, counted}
+use Rattle.hk_operator.specs.declared.done.Done.{Done}
+use Rattle.hk_operator.specs.declared.done.Done.TheVariants.{More, Reply, Publish as Published, Over}
 use Rattle.hk_operator.specs.declared.operator.Operator.{Operator}
-use Rattle.hk_operator.specs.Payload.{Payload, IsPayload, payload_after, step_of}
-use Rattle.hk_operator.specs.Answers.{is_not_built, OnGoing, OnSinkFault, HasPrinted, HasTorn, IsAnswered}
-use Rattle.hk_operator.specs.Obeying.{IsBuilt, is_built_kind, IsObeying, HasObeyed, IsAtDesk, next_number}
-use Rattle.hk_operator.proofs.Built.{next_built, next_kind, leaves_met, leaves_kind}
-use Rattle.hk_operator.proofs.Payloads.{Finishes, next_payload, finishes, nothing_finishes, nothing_changes, room_stays}
-use Rattle.hk_operator.proofs.Scenes.{used_more, open_is, ended_is, leaves_none, leaves_one, add_refused, publish_refused, add_at_desk, publish_at_desk, reply_text}
+use Rattle.hk_operator.specs.declared.draft.Draft.{Draft}
+use Rattle.hk_operator.specs.declared.recorder.Recorder.{Recorder}
+use Rattle.hk_operator.proofs.Coming.{next_in_order, nothing_in_order}
+use Rattle.hk_operator.proofs.Drafting.{part_is, ends_is, not_fault, next_draft, no_draft, next_sound, room_stays, IsWhole, whole_is}
 
 maybe : {A : Type 0} (o : Option A) → (o ≡ None) ⊎ ((x : A) × (o ≡ Some x))
 maybe None = inl refl
 maybe (Some x) = inr (x, refl)
 
-pub none_from : {A : Type 0} (o : Option A) → is_some o ≡ false → o ≡ None
-none_from None is = refl
-none_from (Some x) is = absurd (both_ways true is refl)
+same_fault_in : (f g : WireFault) → items.Fault f ≡ items.Fault g → f ≡ g
+same_fault_in f g is = cc
 
--- the words of a whole command that isn't refused were all kept
-pub all_kept : (p : Payload) (words : List ℕ) (plain : Plain) → p.words ≡ take p.room words → p.count ≡ length words → plain.limits.positions ≤ p.room
-    → add_refusal plain p.id p.count ≡ None → p.words ≡ words
-all_kept p words plain is count room allows =
-    let may : IsAllowed plain p.id p.count = allowed plain p.id p.count allows in
-    let left : p.count ≤ plain.limits.positions - songs.positions_of plain.present = may.words_left in
-    is ∙ take_all p.room words (omega (arith, count, left, room))
+-- an answer by other words
+pub answered_as : (rules : Rules) (desk : Desk) (n m : ℕ) (c : Command) (done : Done) (Leaves Leaves' : Desk → Type 0) → n ≡ m → ((now : Desk) → Leaves now → Leaves' now)
+    → IsAnswered rules desk n (c ∷ []) done Leaves → IsAnswered rules desk m (c ∷ []) done Leaves'
+answered_as rules desk n m c More Leaves Leaves' same on is = is
+answered_as rules desk n m c (Over e) Leaves Leaves' same on is = is
+answered_as rules desk n m c (Reply r) Leaves Leaves' same on is = (is.0, is.1, is.2 ∙ same, is.3, on _ is.4)
+answered_as rules desk n m c (Published k) Leaves Leaves' same on is = (is.0, is.1, is.2 ∙ same, on _ is.3)
 
--- a command that begins with another kind leaves the form
-pub not_begun : (used : List ℕ) (b : ℕ) → (not (ends_at_start operator_grammar used) || is_built_kind b) ≡ false → leaves_form built_operator (used ++ b ∷ []) ≡ true
-not_begun used b is =
-    let parts = or_parts (not (ends_at_start operator_grammar used)) (is_built_kind b) is in
-    leaves_kind used b (start_from (ends_at_start operator_grammar used) parts.0) parts.1
-  where
-    start_from : (t : Bool) → not t ≡ false → t ≡ true
-    start_from true none = refl
-    start_from false none = sym none
+no_end : (rules : Rules) (desk : Desk) (n : ℕ) (c : Command) (done : Done) (Leaves : Desk → Type 0) → IsAnswered rules desk n (c ∷ []) done Leaves → end_in done ≡ None
+no_end rules desk n c More Leaves is = absurd is
+no_end rules desk n c (Over e) Leaves is = absurd is
+no_end rules desk n c (Reply r) Leaves is = refl
+no_end rules desk n c (Published k) Leaves is = refl
 
--- what is known after a byte that leaves no form
-pub record IsOn (rules : Rules) (used : List ℕ) (payload : Payload) (item : OpItem) : Type 0 where
-  pub met : operator_met rules.bytes used ≡ None
-  pub form : leaves_form built_operator used ≡ false
-  pub command : IsBuilt (last_command used)
-  pub payload_is : IsPayload payload (last_command used)
-  pub finishes : Finishes (step_of item) payload (whole_command (last_command used))
-  pub within : length (last_command used) ≤ length used
+module _ (rules : Rules) (clerk : Clerk) (b : ℕ) where
+  abbrev used_more : List ℕ
+  used_more = clerk.used ++ b ∷ []
 
-module _ (rules : Rules) (operator : Operator) (plain : Plain) (scene : Scene) (b : ℕ) (h : IsObeying rules operator plain scene) (below : length scene.clerk.used < rules.bytes)
-    (kind : (not (ends_at_start operator_grammar scene.clerk.used) || is_built_kind b) ≡ true) where
-  start_kind : 4 ≤ length scene.clerk.used → over (packet_size w32) (last_command scene.clerk.used) ≡ true → is_built_kind b ≡ true
-  start_kind long begins =
-      let start : ends_at_start operator_grammar scene.clerk.used ≡ true =
-      ends_at_start-is scene.clerk.used ∙ ap (λ t. t && over (packet_size w32) (last_command scene.clerk.used)) (le-leb 4 (length scene.clerk.used) long) ∙ begins in
-      sym (ap (λ t. not t || is_built_kind b) start) ∙ kind
+  after_by : (end : Option OpEnd) (met : Option WireFault) → Clerk
+  after_by end met = cond (is_some end) clerk
+      (option_map_or (λ fault. record { used = clerk.used; end = Some (op_ends.Wire fault) }) met (record { used = used_more; end = None }))
 
-  form_is_met : leaves_form built_operator (scene.clerk.used ++ b ∷ []) ≡ is_some (operator_met rules.bytes (scene.clerk.used ++ b ∷ []))
-  form_is_met = leaves_met rules.bytes scene.clerk.used b below (λ long.
-      ap (λ xs. is_built_kind (slice_index xs 0)) (last_command-next scene.clerk.used b long)
-      ∙ next_kind (last_command scene.clerk.used) b h.obeyed.command (start_kind long))
+  after_is : (end : Option OpEnd) (met : Option WireFault) → clerk.end ≡ end → operator_met rules.bytes used_more ≡ met → clerk_after rules clerk b ≡ after_by end met
+  unfolding after_by
+  after_is end met e m = ap (λ x. after_by x (operator_met rules.bytes used_more)) e ∙ ap (after_by end) m
 
-  module _ (item : OpItem) (item_is : item ≡ op_item_at rules.bytes (scene.clerk.used ++ b ∷ [])) where
-    in_order : operator_met rules.bytes (scene.clerk.used ++ b ∷ []) ≡ None → item ≡ item_of (last_command (scene.clerk.used ++ b ∷ []))
-    in_order none = item_is ∙ item_at_none rules.bytes (scene.clerk.used ++ b ∷ []) (fault_is rules.bytes scene.clerk.used b h.obeyed.no_fault ∙ none)
+  over_stays : (end : OpEnd) → clerk.end ≡ Some end → clerk_after rules clerk b ≡ clerk
+  unfolding after_by
+  over_stays end is = after_is (Some end) (operator_met rules.bytes used_more) is refl
 
-    faulty : (fault : WireFault) → operator_met rules.bytes (scene.clerk.used ++ b ∷ []) ≡ Some fault → item ≡ items.Fault fault
-    faulty fault is = item_is ∙ item_at_fault rules.bytes (scene.clerk.used ++ b ∷ []) fault (fault_is rules.bytes scene.clerk.used b h.obeyed.no_fault ∙ is)
+  fault_ends : (fault : WireFault) → clerk.end ≡ None → operator_met rules.bytes used_more ≡ Some fault → clerk_after rules clerk b ≡ record { used = clerk.used; end = Some (op_ends.Wire fault) }
+  unfolding after_by
+  fault_ends fault going met = after_is None (Some fault) going met
 
-    -- the byte in the hello, and behind it
-    short_on : length scene.clerk.used < 4 → operator_met rules.bytes (scene.clerk.used ++ b ∷ []) ≡ None → IsOn rules (scene.clerk.used ++ b ∷ []) (payload_after operator.collected item) item
-    short_on short none =
-        let used : List ℕ = scene.clerk.used ++ b ∷ [] in
-        let nothing : last_command (scene.clerk.used ++ b ∷ []) ≡ [] = hello_stays scene.clerk.used b short in
-        let same : last_command scene.clerk.used ≡ last_command (scene.clerk.used ++ b ∷ []) = in_hello scene.clerk.used (omega arith) ∙ sym nothing in
-        let kept : payload_after operator.collected item ≡ operator.collected = ap (payload_after operator.collected) (in_order none) ∙ nothing_changes operator.collected (last_command used) nothing in
-        let long : length (scene.clerk.used ++ b ∷ []) ≡ length scene.clerk.used + 1 = length-append scene.clerk.used (b ∷ []) in
+  byte_used : clerk.end ≡ None → operator_met rules.bytes used_more ≡ None → clerk_after rules clerk b ≡ record { used = used_more; end = None }
+  unfolding after_by
+  byte_used going met = after_is None None going met
+
+  commands_by : (after : Clerk) → clerk_after rules clerk b ≡ after → new_commands rules clerk b ≡ cond (is_some after.end) [] (completed commands used_more)
+  commands_by after is = ap (λ (c : Clerk). cond (is_some c.end) [] (completed commands used_more)) is
+
+  pub commands_now : clerk.end ≡ None → operator_met rules.bytes used_more ≡ None → new_commands rules clerk b ≡ cons_option (whole_command (last_command used_more)) []
+  commands_now going met =
+      commands_by (record { used = used_more; end = None }) (byte_used going met)
+      ∙ completed-append commands clerk.used b (cons_option (whole_command (last_command used_more)) []) (commands-append clerk.used b)
+
+module _ (rules : Rules) (op : Operator) (view : ShelfView) (clerk : Clerk) (desk : Desk) (b : ℕ) (h : IsObeying rules op view clerk desk)
+    (wire : OpWire) (item : OpItem) (pushes : Pushes op.wire b wire item) where
+  abbrev used : List ℕ
+  used = clerk.used ++ b ∷ []
+
+  abbrev bytes : List ℕ
+  bytes = last_command (clerk.used ++ b ∷ [])
+
+  limit_now : limit_of wire ≡ rules.bytes
+  limit_now = pushes.limit ∙ h.limit
+
+  at_end : (end : Option OpEnd) → clerk.end ≡ end → IsAtEnd rules op clerk.used desk.song end
+  at_end end is = subst (IsAtEnd rules op clerk.used desk.song) is h.stream
+
+  item_at : HasObeyed rules op clerk.used desk.song → item ≡ op_item_at rules.bytes used
+  item_at obeyed = pushes.item_is clerk.used obeyed.taken ∙ ap (λ n. op_item_at n used) h.limit
+
+  in_order : HasObeyed rules op clerk.used desk.song → operator_met rules.bytes used ≡ None → item ≡ item_of bytes
+  in_order obeyed none = item_at obeyed ∙ item_at_none rules.bytes used (fault_is rules.bytes clerk.used b obeyed.no_fault ∙ none)
+
+  faulty : HasObeyed rules op clerk.used desk.song → (fault : WireFault) → operator_met rules.bytes used ≡ Some fault → item ≡ items.Fault fault
+  faulty obeyed fault met = item_at obeyed ∙ item_at_fault rules.bytes used fault (fault_is rules.bytes clerk.used b obeyed.no_fault ∙ met)
+
+  -- the byte meets a fault, or met one before
+  module _ (fault : WireFault) (is : item ≡ items.Fault fault) where
+    abbrev now : Operator
+    now = record op { wire = wire }
+
+    abbrev Ended : Type 0
+    Ended = (clerk_after rules clerk b).end ≡ Some (op_ends.Wire fault)
+
+    abbrev Obeys : Type 0
+    Obeys = IsObeying rules now view (clerk_after rules clerk b) desk
+
+    obeying_as : (after : Clerk) → clerk_after rules clerk b ≡ after → after.used ≡ clerk.used → IsAtEnd rules now clerk.used desk.song after.end
+        → (end : OpEnd) → after.end ≡ Some end → Obeys × (new_commands rules clerk b ≡ [])
+    obeying_as after same same_used stream end over = (
+      subst (λ (c : Clerk). IsObeying rules now view c desk) (sym same) (record {
+        fixed = h.fixed;
+        stream = subst (λ u. IsAtEnd rules now u desk.song after.end) (sym same_used) stream;
+        shelf = h.shelf;
+        number = h.number ∙ ap (λ u. length (commands u)) (sym same_used);
+        limit = limit_now;
+        short = h.short;
+        room = h.room;
+        song_room = h.song_room;
+      }),
+      commands_by rules clerk b after same ∙ ap (λ e. cond (is_some e) [] (completed commands used)) over,
+    )
+
+    met_now : HasObeyed rules op clerk.used desk.song → (f : WireFault) → operator_met rules.bytes used ≡ Some f → HasMet rules now f
+    met_now obeyed f met =
+        let taken : HasTaken wire used = pushes.taken clerk.used obeyed.taken in
+        let found : operator_fault rules.bytes used ≡ Some f = fault_is rules.bytes clerk.used b obeyed.no_fault ∙ met in
         record {
-          met = none;
-          form = form_is_met ∙ ap is_some none;
-          command = subst IsBuilt same h.obeyed.command;
-          payload_is = subst (λ p. IsPayload p (last_command used)) (sym kept) (subst (IsPayload operator.collected) same h.obeyed.payload);
-          finishes = subst (λ i. Finishes (step_of i) (payload_after operator.collected item) (whole_command (last_command used))) (sym (in_order none))
-              (nothing_finishes (payload_after operator.collected item) (last_command used) nothing);
-          within = omega (arith, ap length nothing);
+          kept = taken.keeps.fault_is ∙ ap (λ n. operator_fault n used) limit_now ∙ found;
+          text = used;
+          taken = taken;
+          met = found;
         }
 
-    long_on : 4 ≤ length scene.clerk.used → operator_met rules.bytes (scene.clerk.used ++ b ∷ []) ≡ None → IsOn rules (scene.clerk.used ++ b ∷ []) (payload_after operator.collected item) item
-    long_on far none =
-        let before : List ℕ = last_command scene.clerk.used in
-        let bytes : List ℕ = last_command (scene.clerk.used ++ b ∷ []) in
-        let is : last_command (scene.clerk.used ++ b ∷ []) ≡ next_bytes (last_command scene.clerk.used) b = last_command-next scene.clerk.used b far in
-        let long : length (scene.clerk.used ++ b ∷ []) ≡ length scene.clerk.used + 1 = length-append scene.clerk.used (b ∷ []) in
-        let within : length (last_command scene.clerk.used) ≤ length scene.clerk.used = h.obeyed.within in
-        let short : rules.bytes < 2 ^ 64 = h.obeyed.short in
-        let head : head_fault (length scene.clerk.used) (head_of (next_bytes before b)) ≡ None =
-        sym (packet_met rules.bytes scene.clerk.used b (next_bytes before b) far below is) ∙ none in
-        let built : IsBuilt (next_bytes before b) = next_built (length scene.clerk.used) before b h.obeyed.command (start_kind far) head in
-        let grown : length (next_bytes (last_command scene.clerk.used) b) ≤ length (last_command scene.clerk.used) + 1 =
-        either (λ ys. length ys ≤ length (last_command scene.clerk.used) + 1) before b (omega arith) (omega (arith, length-append before (b ∷ []))) in
-        let some : 0 < length (next_bytes (last_command scene.clerk.used) b) =
-        either (λ ys. 0 < length ys) before b (omega arith) (omega (arith, length-append before (b ∷ []))) in
-        let payload : IsPayload (payload_after operator.collected item) bytes =
-        subst (λ i. IsPayload (payload_after operator.collected i) bytes) (sym (in_order none))
-        (subst (λ xs. IsPayload (payload_after operator.collected (item_of xs)) xs) (sym is)
-        (next_payload operator.collected before b (omega (arith, within, short, below)) h.obeyed.payload built)) in
+    over_by : (end : Option OpEnd) → clerk.end ≡ end → Ended × (Obeys × (new_commands rules clerk b ≡ []))
+    over_by None going =
+        let obeyed : HasObeyed rules op clerk.used desk.song = at_end None going in
+        elim (maybe (operator_met rules.bytes used)) [
+          | inl none ↦ absurd (not_fault bytes fault (sym (in_order obeyed none) ∙ is))
+          | inr some ↦
+              let same : some.0 ≡ fault = same_fault_in some.0 fault (sym (faulty obeyed some.0 some.1) ∙ is) in
+              let met : operator_met rules.bytes used ≡ Some fault = some.1 ∙ ap (λ f. Some f) same in
+              let after = fault_ends rules clerk b fault going met in (
+                ap (λ (c : Clerk). c.end) after,
+                obeying_as (record { used = clerk.used; end = Some (op_ends.Wire fault) }) after refl (met_now obeyed fault met) (op_ends.Wire fault) refl,
+              )
+        ]
+    over_by (Some (op_ends.Wire f)) over =
+        let hm : HasMet rules op f = at_end (Some (op_ends.Wire f)) over in
+        let same : f ≡ fault = same_fault_in f fault (sym (pushes.same_fault f hm.kept) ∙ is) in
+        let stays : wire ≡ op.wire = pushes.stays f hm.kept in
+        let after = over_stays rules clerk b (op_ends.Wire f) over in
+        let kept : HasMet rules now f = subst (λ (w : OpWire). HasMet rules (record op { wire = w }) f) (sym stays) hm in (
+          ap (λ (c : Clerk). c.end) after ∙ over ∙ ap (λ g. Some (op_ends.Wire g)) same,
+          obeying_as clerk after refl (subst (IsAtEnd rules now clerk.used desk.song) (sym over) kept) (op_ends.Wire f) over,
+        )
+    over_by (Some op_ends.Ended) over = absurd (at_end (Some op_ends.Ended) over)
+    over_by (Some op_ends.ReadFault) over = absurd (at_end (Some op_ends.ReadFault) over)
+    over_by (Some op_ends.SinkFault) over = absurd (at_end (Some op_ends.SinkFault) over)
+
+    pub fault_over : Some (op_ends.Wire fault) ≡ (clerk_after rules clerk b).end
+    fault_over = sym (over_by clerk.end refl).0
+
+    pub fault_answered : (n : ℕ) → IsAnswered rules desk n (new_commands rules clerk b) (Over (op_ends.Wire fault)) (IsObeying rules now view (clerk_after rules clerk b))
+    fault_answered n =
+        let by = over_by clerk.end refl in
+        subst (λ cs. IsAnswered rules desk n cs (Over (op_ends.Wire fault)) (IsObeying rules now view (clerk_after rules clerk b))) (sym by.1.1) by.1.0
+
+  met_by : (end : Option OpEnd) → is_some end ≡ true → clerk.end ≡ end → (fault : WireFault) × (fault_met op.wire ≡ Some fault)
+  met_by None some is = absurd (both_ways false refl some)
+  met_by (Some (op_ends.Wire f)) some is = let hm : HasMet rules op f = at_end (Some (op_ends.Wire f)) is in (f, hm.kept)
+  met_by (Some op_ends.Ended) some is = absurd (at_end (Some op_ends.Ended) is)
+  met_by (Some op_ends.ReadFault) some is = absurd (at_end (Some op_ends.ReadFault) is)
+  met_by (Some op_ends.SinkFault) some is = absurd (at_end (Some op_ends.SinkFault) is)
+
+  -- one that is over stays as it is
+  pub over_same : is_some clerk.end ≡ true → record op { wire = wire } ≡ op
+  over_same some = let met = met_by clerk.end some refl in ap (λ (w : OpWire). record op { wire = w }) (pushes.stays met.0 met.1)
+
+  pub never_on : ((fault : WireFault) → item ≡ items.Fault fault → ⊥) → is_some clerk.end ≡ true → ⊥
+  never_on known some = let met = met_by clerk.end some refl in known met.0 (pushes.same_fault met.0 met.1)
+
+  -- the byte meets no fault
+  record IsOn : Type 0 where
+    going : clerk.end ≡ None
+    obeyed : HasObeyed rules op clerk.used desk.song
+    met : operator_met rules.bytes used ≡ None
+    item_is : item ≡ item_of bytes
+    order : IsInOrder bytes
+    draft : IsDraft (draft_after op.draft (part_of item)) bytes
+    sound : sound_there bytes ≡ sound_ahead (last_command clerk.used) ++ sound_in (part_of item)
+    below : length clerk.used < rules.bytes
+
+  below_limit : operator_met rules.bytes used ≡ None → length clerk.used < rules.bytes
+  below_limit none = elim (cases_lt (length clerk.used) rules.bytes) [
+    | inl below ↦ below
+    | inr past ↦ absurd (let no_fault : None ≡ Some (TooLong rules.bytes) = sym none ∙ too_long rules.bytes clerk.used b past in cc)
+  ]
+
+  hello_on : clerk.end ≡ None → HasObeyed rules op clerk.used desk.song → operator_met rules.bytes used ≡ None → length clerk.used < 4 → IsOn
+  hello_on going obeyed none short =
+      let nothing : bytes ≡ [] = hello_stays clerk.used b short in
+      let before : last_command clerk.used ≡ [] = in_hello clerk.used (omega arith) in
+      let part : part_of item ≡ items.Nothing = ap part_of (in_order obeyed none) ∙ ap (λ xs. part_of (item_of xs)) nothing in
+      record {
+        going = going;
+        obeyed = obeyed;
+        met = none;
+        item_is = in_order obeyed none;
+        order = subst IsInOrder (sym nothing) nothing_in_order;
+        draft = subst (IsDraft (draft_after op.draft (part_of item))) (sym nothing) (no_draft (draft_after op.draft (part_of item)));
+        sound = ap sound_there nothing ∙ sym (ap (λ xs. sound_ahead xs ++ sound_in (part_of item)) before ∙ ap sound_in part);
+        below = below_limit none;
+      }
+
+  command_on : clerk.end ≡ None → HasObeyed rules op clerk.used desk.song → operator_met rules.bytes used ≡ None → 4 ≤ length clerk.used → IsOn
+  command_on going obeyed none far =
+      let before : List ℕ = last_command clerk.used in
+      let next : bytes ≡ next_bytes (last_command clerk.used) b = last_command-next clerk.used b far in
+      let head : head_fault (length clerk.used) (head_of (next_bytes before b)) ≡ None =
+      sym (packet_met rules.bytes clerk.used b (next_bytes before b) far (below_limit none) next) ∙ none in
+      let part : part_of item ≡ brought (next_bytes before b) = ap part_of (in_order obeyed none) ∙ part_is bytes ∙ ap brought next in
+      record {
+        going = going;
+        obeyed = obeyed;
+        met = none;
+        item_is = in_order obeyed none;
+        order = subst IsInOrder (sym next) (next_in_order (length clerk.used) before b obeyed.command head);
+        draft = subst (λ i. IsDraft (draft_after op.draft i) bytes) (sym part)
+            (subst (IsDraft (draft_after op.draft (brought (next_bytes before b)))) (sym next) (next_draft op.draft before b obeyed.draft));
+        sound = ap sound_there next ∙ next_sound before b ∙ ap (λ i. sound_ahead before ++ sound_in i) (sym part);
+        below = below_limit none;
+      }
+
+  goes_by : ((fault : WireFault) → item ≡ items.Fault fault → ⊥) → (end : Option OpEnd) → clerk.end ≡ end → IsOn
+  goes_by known None going =
+      let obeyed : HasObeyed rules op clerk.used desk.song = at_end None going in
+      elim (maybe (operator_met rules.bytes used)) [
+        | inl none ↦ elim (cases_lt (length clerk.used) 4) [ inl short ↦ hello_on going obeyed none short | inr far ↦ command_on going obeyed none far ]
+        | inr some ↦ absurd (known some.0 (faulty obeyed some.0 some.1))
+      ]
+  goes_by known (Some (op_ends.Wire f)) over =
+      let hm : HasMet rules op f = at_end (Some (op_ends.Wire f)) over in
+      absurd (known f (pushes.same_fault f hm.kept))
+  goes_by known (Some op_ends.Ended) over = absurd (at_end (Some op_ends.Ended) over)
+  goes_by known (Some op_ends.ReadFault) over = absurd (at_end (Some op_ends.ReadFault) over)
+  goes_by known (Some op_ends.SinkFault) over = absurd (at_end (Some op_ends.SinkFault) over)
+
+  module _ (known : (fault : WireFault) → item ≡ items.Fault fault → ⊥) (part : OpItem) (part_eq : part ≡ part_of item)
+      (draft : Draft) (draft_eq : draft ≡ draft_after op.draft part) (recorder : Recorder)
+      (hears : (sound : List ℕ) → IsRecording rules op.recorder desk.song sound → IsRecording rules recorder desk.song (sound ++ sound_in part))
+      (song_room : recorder.words.room ≡ op.recorder.words.room) where
+    abbrev mid : Operator
+    mid = record op { wire = wire; draft = draft; recorder = recorder }
+
+    on : IsOn
+    on = goes_by known clerk.end refl
+
+    draft_now : IsDraft draft bytes
+    draft_now = subst (λ d. IsDraft d bytes) (sym (draft_eq ∙ ap (draft_after op.draft) part_eq)) on.draft
+
+    recording : IsRecording rules recorder desk.song (sound_there bytes)
+    recording = subst (IsRecording rules recorder desk.song) (sym (on.sound ∙ ap (λ p. sound_ahead (last_command clerk.used) ++ sound_in p) (sym part_eq)))
+        (hears (sound_ahead (last_command clerk.used)) on.obeyed.recording)
+
+    draft_room : draft.words.room ≡ rules.limits.positions
+    draft_room = ap (λ (d : Draft). d.words.room) draft_eq ∙ room_stays op.draft part ∙ h.room
+
+    whole_ends : ends item ≡ is_whole_command bytes
+    whole_ends = ap ends on.item_is ∙ ends_is bytes
+
+    used_now : clerk_after rules clerk b ≡ record { used = used; end = None }
+    used_now = byte_used rules clerk b on.going on.met
+
+    obeyed_now : (operator : Operator) (now : Desk) → operator.wire ≡ wire → operator.draft ≡ draft
+        → IsRecording rules operator.recorder now.song (sound_ahead bytes) → HasObeyed rules operator used now.song
+    obeyed_now operator now same_wire same_draft heard =
+        let few : length (commands clerk.used) ≤ length clerk.used = on.obeyed.few in
         record {
-          met = none;
-          form = form_is_met ∙ ap is_some none;
-          command = subst IsBuilt (sym is) built;
-          payload_is = payload;
-          finishes = subst (λ i. Finishes (step_of i) (payload_after operator.collected item) (whole_command bytes)) (sym (in_order none))
-              (finishes (payload_after operator.collected item) bytes (subst (λ xs. 0 < length xs) (sym is) some) (subst IsBuilt (sym is) built) payload);
-          within = omega (arith, ap length is, grown, within, long);
+          taken = subst (λ (w : OpWire). HasTaken w used) (sym same_wire) (pushes.taken clerk.used on.obeyed.taken);
+          no_fault = fault_is rules.bytes clerk.used b on.obeyed.no_fault ∙ on.met;
+          command = on.order;
+          draft = subst (λ d. IsDraft d bytes) (sym same_draft) draft_now;
+          recording = heard;
+          few = omega (arith, few, length-append clerk.used (b ∷ []), grown);
         }
+      where
+        by : (o : Option Command) → length (cons_option o []) ≤ 1
+        by None = omega arith
+        by (Some c) = omega arith
 
-    -- a fault, or another item than those of the commands that are built, leaves the form
-    pub other_leaves : step_of item ≡ steps.Other → leaves_form built_operator (scene.clerk.used ++ b ∷ []) ≡ true
-    unfolding Finishes
-    other_leaves other = elim (maybe (operator_met rules.bytes (scene.clerk.used ++ b ∷ []))) [
-      | inl none ↦
-          let p : Payload = payload_after operator.collected item in
-          let on : IsOn rules (scene.clerk.used ++ b ∷ []) (payload_after operator.collected item) item =
-          elim (cases_lt (length scene.clerk.used) 4) [ inl short ↦ short_on short none | inr far ↦ long_on far none ] in
-          absurd (subst (λ s. Finishes s p (whole_command (last_command (scene.clerk.used ++ b ∷ [])))) other on.finishes)
-      | inr some ↦ form_is_met ∙ ap is_some some.1
-    ]
+        grown : length (commands (clerk.used ++ b ∷ [])) ≤ length (commands clerk.used) + 1
+        grown =
+            let more : length (commands (clerk.used ++ b ∷ [])) ≡ length (commands clerk.used ++ cons_option (whole_command bytes) []) = ap length (commands-append clerk.used b) in
+            let sum : length (commands clerk.used ++ cons_option (whole_command bytes) []) ≡ length (commands clerk.used) + length (cons_option (whole_command bytes) []) =
+            length-append (commands clerk.used) (cons_option (whole_command bytes) []) in
+            let one : length (cons_option (whole_command bytes) []) ≤ 1 = by (whole_command bytes) in
+            omega (arith, more, sum, one)
 
-    pub goes_on : (step_of item ≡ steps.Other → ⊥) → IsOn rules (scene.clerk.used ++ b ∷ []) (payload_after operator.collected item) item
-    goes_on known = elim (maybe (operator_met rules.bytes (scene.clerk.used ++ b ∷ []))) [
-      | inl none ↦ elim (cases_lt (length scene.clerk.used) 4) [ inl short ↦ short_on short none | inr far ↦ long_on far none ]
-      | inr some ↦ absurd (known (ap step_of (faulty some.0 some.1)))
-    ]
+    -- no command ends
+    module _ (open_yet : ends item ≡ false) where
+      open_command : is_whole_command bytes ≡ false
+      open_command = sym whole_ends ∙ open_yet
 
-    module _ (on : IsOn rules (scene.clerk.used ++ b ∷ []) (payload_after operator.collected item) item)
-        (new : Operator) (taken : HasTaken new.wire (scene.clerk.used ++ b ∷ [])) (limit : limit_of new.wire ≡ limit_of operator.wire)
-        (collected : new.collected ≡ payload_after operator.collected item) where
-      -- the operator with the byte, by the number of commands
-      obeyed_more : (number : ℕ) → number ≡ length (commands (scene.clerk.used ++ b ∷ [])) → length (commands (scene.clerk.used ++ b ∷ [])) ≤ length (commands scene.clerk.used) + 1
-          → HasObeyed rules (record new { commands = number }) (scene.clerk.used ++ b ∷ [])
-      obeyed_more number is few =
-          let long : length (scene.clerk.used ++ b ∷ []) ≡ length scene.clerk.used + 1 = length-append scene.clerk.used (b ∷ []) in
-          record {
-            taken = taken;
-            no_fault = fault_is rules.bytes scene.clerk.used b h.obeyed.no_fault ∙ on.met;
-            limit = limit ∙ h.obeyed.limit;
-            short = h.obeyed.short;
-            command = on.command;
-            payload = subst (λ p. IsPayload p (last_command (scene.clerk.used ++ b ∷ []))) (sym collected) on.payload_is;
-            number = is;
-            few = omega (arith, few, h.obeyed.few, long);
-            within = on.within;
-            positions = ap (λ p. p.room) collected ∙ room_stays operator.collected item ∙ h.obeyed.positions;
-          }
+      no_command : whole_command bytes ≡ None
+      no_command = ap (λ t. cond t (command_for (slice_index bytes 0) (drop 5 bytes)) None) open_command
 
-      finished : (step : Step) → step_of item ≡ step → Finishes step new.collected (whole_command (last_command (scene.clerk.used ++ b ∷ [])))
-      finished step is = subst (λ s. Finishes s new.collected (whole_command (last_command (scene.clerk.used ++ b ∷ [])))) is
-          (subst (λ p. Finishes (step_of item) p (whole_command (last_command (scene.clerk.used ++ b ∷ [])))) (sym collected) on.finishes)
+      ahead : sound_ahead bytes ≡ sound_there bytes
+      ahead = ap (λ t. cond t [] (sound_there bytes)) open_command
 
-      -- no command ends
-      module _ (step : step_of item ≡ steps.Open) where
-        nothing_ends : whole_command (last_command (scene.clerk.used ++ b ∷ [])) ≡ None
-        unfolding Finishes
-        nothing_ends = finished steps.Open step
+      same_number : length (commands clerk.used) ≡ length (commands used)
+      same_number = ap length (sym (commands-append clerk.used b ∙ ap (λ o. commands clerk.used ++ cons_option o []) no_command ∙ append-nil (commands clerk.used)))
 
-        pub open_scene : for_operator rules [] scene b ≡ used_more scene b
-        open_scene = open_is rules scene b h.going_on on.met nothing_ends
+      more_obeys : IsObeying rules mid view (record { used = used; end = None }) desk
+      more_obeys = record {
+        fixed = h.fixed;
+        stream = obeyed_now mid desk refl refl (subst (IsRecording rules recorder desk.song) (sym ahead) recording);
+        shelf = h.shelf;
+        number = h.number ∙ same_number;
+        limit = limit_now;
+        short = h.short;
+        room = draft_room;
+        song_room = song_room ∙ h.song_room;
+      }
 
-        pub open_leaves : leaves_operator rules [] scene.desk (scene.clerk.used ++ b ∷ []) ≡ false
-        open_leaves = leaves_none rules scene.desk scene.clerk.used b on.form nothing_ends
+      pub more_over : None ≡ (clerk_after rules clerk b).end
+      more_over = sym (ap (λ (c : Clerk). c.end) used_now)
 
-        same_commands : commands (scene.clerk.used ++ b ∷ []) ≡ commands scene.clerk.used
-        same_commands = commands-append scene.clerk.used b ∙ ap (λ o. commands scene.clerk.used ++ cons_option o []) nothing_ends ∙ append-nil (commands scene.clerk.used)
+      pub more_answered : (n : ℕ) → IsAnswered rules desk n (new_commands rules clerk b) More (IsObeying rules mid view (clerk_after rules clerk b))
+      more_answered n =
+          subst (λ cs. IsAnswered rules desk n cs More (IsObeying rules mid view (clerk_after rules clerk b)))
+          (sym (commands_now rules clerk b on.going on.met ∙ ap (λ o. cons_option o []) no_command))
+          (subst (λ (c : Clerk). IsObeying rules mid view c desk) (sym used_now) more_obeys)
 
-        pub open_obeys : IsObeying rules (record new { commands = operator.commands }) plain (for_operator rules [] scene b)
-        open_obeys = subst (IsObeying rules (record new { commands = operator.commands }) plain) (sym open_scene) (record {
-          fixed = h.fixed;
-          going_on = refl;
-          obeyed = obeyed_more operator.commands (h.obeyed.number ∙ sym (ap length same_commands)) (omega (arith, ap length same_commands));
-          desk = h.desk;
-        })
+    -- a command ends
+    module _ (last : ends item ≡ true) where
+      whole_command_is : is_whole_command bytes ≡ true
+      whole_command_is = sym whole_ends ∙ last
 
-      -- a command ends
-      module _ (c : Command) (ends : whole_command (last_command (scene.clerk.used ++ b ∷ [])) ≡ Some c) where
-        command_leaves : leaves_operator rules [] scene.desk (scene.clerk.used ++ b ∷ []) ≡ is_some (first_that_holds (refusals rules scene.desk c))
-        command_leaves = leaves_one rules scene.desk scene.clerk.used b c on.form ends
+      pub whole : IsWhole draft bytes
+      whole = whole_is draft bytes on.order draft_now (eqb-true _ _ whole_command_is)
 
-        one_command : length (commands (scene.clerk.used ++ b ∷ [])) ≡ length (commands scene.clerk.used) + 1
-        one_command = ap length (commands-append scene.clerk.used b ∙ ap (λ o. commands scene.clerk.used ++ cons_option o []) ends) ∙ length-append (commands scene.clerk.used) (c ∷ [])
+      none_ahead : sound_ahead bytes ≡ []
+      none_ahead = ap (λ t. cond t [] (sound_there bytes)) whole_command_is
 
-        number_is : next_number operator ≡ length (commands scene.clerk.used) + 1
-        number_is =
-            let few : length (commands scene.clerk.used) ≤ length scene.clerk.used = h.obeyed.few in
-            let short : rules.bytes < 2 ^ 64 = h.obeyed.short in
-            let now : operator.commands ≡ length (commands scene.clerk.used) = h.obeyed.number in
-            omega (arith, few, short, now, below)
+      one_more : length (commands used) ≡ length (commands clerk.used) + 1
+      one_more = ap length (commands-append clerk.used b ∙ ap (λ o. commands clerk.used ++ cons_option o []) whole.is) ∙ length-append (commands clerk.used) (whole.command ∷ [])
 
-        -- and isn't refused
-        module _ (allows : first_that_holds (refusals rules scene.desk c) ≡ None) where
-          command_obeys : (plain' : Plain) → IsAtDesk rules plain' (after rules scene.desk c (success rules scene.desk c))
-              → IsObeying rules (record new { commands = next_number operator }) plain' (for_operator rules [] scene b)
-          command_obeys plain' at = subst (IsObeying rules (record new { commands = next_number operator }) plain') (sym (ended_is rules scene b h.going_on on.met c ends allows)) (record {
-            fixed = h.fixed;
-            going_on = refl;
-            obeyed = obeyed_more (next_number operator) (number_is ∙ sym one_command) (omega (arith, one_command));
-            desk = at;
-          })
+      number_is : next_number mid ≡ length (commands clerk.used) + 1
+      number_is =
+          let few : length (commands clerk.used) ≤ length clerk.used = on.obeyed.few in
+          let short : rules.bytes < 2 ^ 64 = h.short in
+          let now : op.commands ≡ length (commands clerk.used) = h.number in
+          let below : length clerk.used < rules.bytes = on.below in
+          omega (arith, few, short, now, below)
 
-          -- what is printed is its reply
-          command_prints : (for_operator rules [] scene b).printed ≡ scene.printed ++ Replied (next_number operator) (success rules scene.desk c) ∷ []
-          command_prints = ap (λ (s : Scene). s.printed) (ended_is rules scene b h.going_on on.met c ends allows)
-              ∙ ap (λ n. scene.printed ++ Replied n (success rules scene.desk c) ∷ []) (sym number_is)
+      pub desk_is : IsDesk rules mid view desk (sound_of whole.command)
+      desk_is = record {
+        fixed = h.fixed;
+        recording = subst (IsRecording rules recorder desk.song) (sym whole.sound) recording;
+        shelf = h.shelf;
+        room = draft_room;
+        song_room = song_room ∙ h.song_room;
+      }
 
-      -- added words end
-      module _ (step : step_of item ≡ steps.Add) where
-        added : (words : List ℕ) × (whole_command (last_command (scene.clerk.used ++ b ∷ [])) ≡ Some (AddWords new.collected.id words))
-            × (new.collected.words ≡ take new.collected.room words) × (new.collected.count ≡ length words)
-        unfolding Finishes
-        added = finished steps.Add step
+      obeys : (new : Operator) (view' : ShelfView) → new ≡ counted mid new.recorder → (now : Desk) → IsDesk rules new view' now [] → IsObeying rules new view' (clerk_after rules clerk b) now
+      obeys new view' kept now at = subst (λ (c : Clerk). IsObeying rules new view' c now) (sym used_now) (record {
+        fixed = at.fixed;
+        stream = obeyed_now new now (ap (λ (o : Operator). o.wire) kept) (ap (λ (o : Operator). o.draft) kept)
+            (subst (IsRecording rules new.recorder now.song) (sym none_ahead) at.recording);
+        shelf = at.shelf;
+        number = ap (λ (o : Operator). o.commands) kept ∙ number_is ∙ sym one_more;
+        limit = ap (λ (o : Operator). limit_of o.wire) kept ∙ limit_now;
+        short = h.short;
+        room = at.room;
+        song_room = at.song_room;
+      })
 
-        refusal_is : first_that_holds (refusals rules scene.desk (AddWords new.collected.id added.0)) ≡ add_refusal plain new.collected.id new.collected.count
-        refusal_is = add_refused rules plain scene.desk h.fixed h.desk new.collected.id added.0 ∙ ap (add_refusal plain new.collected.id) (sym added.3)
+      module _ (new : Operator) (view' : ShelfView) (kept : new ≡ counted mid new.recorder) (done : Done)
+          (answered : (command : Command) → IsDesk rules mid view desk (sound_of command) → Drafts draft command
+          → IsAnswered rules desk (next_number mid) (command ∷ []) done (λ now. IsDesk rules new view' now [])) where
+        pub command_over : end_in done ≡ (clerk_after rules clerk b).end
+        command_over = no_end rules desk (next_number mid) whole.command done (λ now. IsDesk rules new view' now []) (answered whole.command desk_is whole.draft)
+            ∙ sym (ap (λ (c : Clerk). c.end) used_now)
 
-        pub add_leaves : is_some (add_refusal plain new.collected.id new.collected.count) ≡ leaves_operator rules [] scene.desk (scene.clerk.used ++ b ∷ [])
-        add_leaves = sym (command_leaves (AddWords new.collected.id added.0) added.1 ∙ ap is_some refusal_is)
+        pub command_answered : IsAnswered rules desk (length (commands clerk.used) + 1) (new_commands rules clerk b) done (IsObeying rules new view' (clerk_after rules clerk b))
+        command_answered =
+            subst (λ cs. IsAnswered rules desk (length (commands clerk.used) + 1) cs done (IsObeying rules new view' (clerk_after rules clerk b)))
+            (sym (commands_now rules clerk b on.going on.met ∙ ap (λ o. cons_option o []) whole.is))
+            (answered_as rules desk (next_number mid) (length (commands clerk.used) + 1) whole.command done (λ now. IsDesk rules new view' now [])
+            (IsObeying rules new view' (clerk_after rules clerk b)) number_is (obeys new view' kept) (answered whole.command desk_is whole.draft))
 
-        module _ (allows : add_refusal plain new.collected.id new.collected.count ≡ None) where
-          words_are : new.collected.words ≡ added.0
-          words_are =
-              let room : new.collected.room ≡ rules.limits.positions = ap (λ p. p.room) collected ∙ room_stays operator.collected item ∙ h.obeyed.positions in
-              let limits : plain.limits.positions ≡ rules.limits.positions = ap (λ (l : songs.Limits). l.positions) h.desk.limits in
-              all_kept new.collected added.0 plain added.2 added.3 (omega (arith, room, limits)) allows
+-- how the stream ends
+module _ (rules : Rules) (op : Operator) (view : ShelfView) (clerk : Clerk) (desk : Desk) (h : IsObeying rules op view clerk desk)
+    (wrong : Option WireFault) (tells : (text : List ℕ) → HasTaken op.wire text → wrong ≡ operator_wrong (limit_of op.wire) text) where
+  ended_by : (end : Option OpEnd) → clerk.end ≡ end → IsAtEnd rules op clerk.used desk.song end → option_map_or (λ fault. op_ends.Wire fault) wrong op_ends.Ended ≡ operator_end_of rules clerk
+  ended_by None going obeyed =
+      ap (λ w. option_map_or (λ fault. op_ends.Wire fault) w op_ends.Ended) (tells clerk.used obeyed.taken ∙ ap (λ n. operator_wrong n clerk.used) h.limit)
+      ∙ sym (ap (λ e. unwrap_or e (option_map_or (λ fault. op_ends.Wire fault) (operator_wrong rules.bytes clerk.used) op_ends.Ended)) going)
+  ended_by (Some (op_ends.Wire f)) over met =
+      let border : Option WireFault = cond ((length met.text == 0) || ends_at_start operator_grammar met.text) None (Some (Cut (length met.text))) in
+      ap (λ w. option_map_or (λ fault. op_ends.Wire fault) w op_ends.Ended)
+      (tells met.text met.taken ∙ ap (λ n. operator_wrong n met.text) h.limit ∙ ap (λ o. option_or o border) met.met)
+      ∙ sym (ap (λ e. unwrap_or e (option_map_or (λ fault. op_ends.Wire fault) (operator_wrong rules.bytes clerk.used) op_ends.Ended)) over)
+  ended_by (Some op_ends.Ended) over met = absurd met
+  ended_by (Some op_ends.ReadFault) over met = absurd met
+  ended_by (Some op_ends.SinkFault) over met = absurd met
 
-          pub add_obeys : IsObeying rules (record new { commands = next_number operator }) (with_staged plain new.collected.id new.collected.words) (for_operator rules [] scene b)
-          add_obeys = subst (λ ws. IsObeying rules (record new { commands = next_number operator }) (with_staged plain new.collected.id ws) (for_operator rules [] scene b)) (sym words_are)
-              (command_obeys (AddWords new.collected.id added.0) added.1 (refusal_is ∙ allows) (with_staged plain new.collected.id added.0)
-              (add_at_desk rules plain scene.desk h.fixed h.desk new.collected.id added.0 (ap (add_refusal plain new.collected.id) (sym added.3) ∙ allows)))
+  pub ended_is : option_map_or (λ fault. op_ends.Wire fault) wrong op_ends.Ended ≡ operator_end_of rules clerk
+  ended_is = ended_by clerk.end refl h.stream
 
-          pub add_prints : (for_operator rules [] scene b).printed ≡ scene.printed ++ Replied (next_number operator) Done ∷ []
-          add_prints = command_prints (AddWords new.collected.id added.0) added.1 (refusal_is ∙ allows)
-
-      -- a publish ends
-      module _ (step : step_of item ≡ steps.Publish) where
-        published : whole_command (last_command (scene.clerk.used ++ b ∷ [])) ≡ Some Publish
-        unfolding Finishes
-        published = finished steps.Publish step
-
-        pub publish_leaves : is_full_of_versions plain ≡ leaves_operator rules [] scene.desk (scene.clerk.used ++ b ∷ [])
-        publish_leaves = sym (command_leaves Publish published ∙ publish_refused rules plain scene.desk h.fixed h.desk)
-
-        module _ (allows : is_full_of_versions plain ≡ false) where
-          not_refused : first_that_holds (refusals rules scene.desk Publish) ≡ None
-          not_refused = none_from (first_that_holds (refusals rules scene.desk Publish)) (publish_refused rules plain scene.desk h.fixed h.desk ∙ allows)
-
-          pub publish_obeys : IsObeying rules (record new { commands = next_number operator }) (after_publish plain) (for_operator rules [] scene b)
-          publish_obeys = command_obeys Publish published not_refused (after_publish plain) (publish_at_desk rules plain scene.desk h.fixed h.desk)
-
-          pub publish_prints : (for_operator rules [] scene b).printed ≡ scene.printed ++ Replied (next_number operator) (Published (plain.version + 1)) ∷ []
-          publish_prints = command_prints Publish published not_refused ∙ ap (λ n. scene.printed ++ Replied (next_number operator) (Published (n + 1)) ∷ []) (sym h.desk.version)
-
--- facts of an answer where one was given
-pub on_going : (r : Obeyed) (P : Type 0) → (is_not_built r ≡ false → P) → OnGoing r P
-on_going Going P p = p refl
-on_going NotBuilt P p = tt
-on_going SinkFault P p = tt
-
-pub printed_reply : (r : Obeyed) (number : ℕ) (what : What) (before after' : List Printed) (old new : Option (List ℕ)) (faults faults' : ℕ)
-    → (is_not_built r ≡ false → IsAnswered r number what old new faults faults') → (is_not_built r ≡ false → after' ≡ before ++ Replied number what ∷ []) → OnGoing r (HasPrinted before after' old new)
-printed_reply Going number what before after' old new faults faults' answered is =
-    (Replied number what ∷ [], is refl, subst (λ t. Wrote t old new) (sym (reply_text number what)) (answered refl).whole)
-printed_reply NotBuilt number what before after' old new faults faults' answered is = tt
-printed_reply SinkFault number what before after' old new faults faults' answered is = tt
-
-pub torn_reply : (r : Obeyed) (number : ℕ) (what : What) (before after' : List Printed) (old new : Option (List ℕ)) (faults faults' : ℕ)
-    → (is_not_built r ≡ false → IsAnswered r number what old new faults faults') → (is_not_built r ≡ false → after' ≡ before ++ Replied number what ∷ []) → OnSinkFault r (HasTorn before after' old new)
-torn_reply Going number what before after' old new faults faults' answered is = tt
-torn_reply NotBuilt number what before after' old new faults faults' answered is = tt
-torn_reply SinkFault number what before after' old new faults faults' answered is =
-    (Replied number what ∷ [], is refl, subst (λ t. WroteFront t old new) (sym (reply_text number what)) (answered refl).torn)
+pub no_commands : length (commands []) ≡ 0
+unfolding commands packets pieces_within
+no_commands = refl

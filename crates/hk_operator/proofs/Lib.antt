@@ -1,5 +1,7 @@
-pub mod Built
-pub mod Payloads
-pub mod Scenes
-pub mod Starting
+pub mod Coming
+pub mod Drafting
+pub mod Hearing
+pub mod Deciding
 pub mod Following
+pub mod Completing
+pub mod Joining

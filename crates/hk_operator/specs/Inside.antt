@@ -1,12 +1,14 @@
--- What is kept of a payload, and what is true of it.
-use Rattle.std.specs.Prelude.{◌≡◌, ◌≤◌, min, length, vec_capacity}
-use Rattle.hk_operator.specs.Payload.{Payload}
-use Rattle.hk_operator.specs.declared.collected.Collected.TheInside.{Inside}
+-- What is kept of words, and what is true of it.
+use Rattle.std.specs.Prelude.{◌≡◌, ◌≤◌, ◌^◌, min, length, vec_capacity}
+use Rattle.hk_operator.specs.Kept.{Words}
+use Rattle.hk_operator.specs.declared.kept.Kept.TheInside.{Inside}
 
-abbrev pub as_payload : Inside → Payload
-as_payload c = record { id = c.id; words = c.words.items; count = c.count; room = c.room }
+abbrev pub as_words : Inside → Words
+as_words k = record { words = k.words.items; count = k.count; room = k.room }
 
--- All words are kept, or as many as there is room for; and the memory for them is there.
-pub record IsKept (c : Inside) : Type 0 where
-  pub all : length c.words.items ≡ min c.count c.room
-  pub space : c.room ≤ vec_capacity c.words
+-- All words are kept, or as many as there is room for; the memory for them is there, and a block's words have room.
+pub record IsWithin (k : Inside) : Type 0 where
+  pub all : length k.words.items ≡ min k.count k.room
+  pub space : k.room ≤ vec_capacity k.words
+  pub enough : 256 ≤ k.room
+  pub most : k.room ≤ 2 ^ 24

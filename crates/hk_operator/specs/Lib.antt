@@ -1,4 +1,7 @@
-pub mod Payload
+pub mod Kept
 pub mod Inside
-pub mod Answers
+pub mod Parts
+pub mod Draft
+pub mod Sound
+pub mod Desk
 pub mod Obeying

@@ -1,72 +1,134 @@
--- An operator, its catalogue, and the run that they stand for.
-use Rattle.std.specs.Prelude.{◌≡◌, ◌⊎◌, ℕ, ◌+◌, ◌-◌, ◌^◌, ◌<◌, min, ◌≤◌, Bool, true, List, [], ◌∷◌, length, take, drop, slice_index, None}
+-- An operator, its shelf, and the clerk and the desk that they stand for.
+use Rattle.std.specs.Prelude.{◌≡◌, ℕ, ◌+◌, ◌-◌, ◌^◌, ◌<◌, ◌≤◌, min, Bool, true, false, if◌then◌else◌, List, [], ◌∷◌, ◌++◌, length, take, drop, slice_index, Option, Some, None, is_some}
+use Rattle.std.specs.Option.{option_map_or}
 use Rattle.std.specs.Int.{w32, from_be_bytes}
-use Rattle.hk_spec_streams.specs.Pieces.{is_one_of}
+use Rattle.hk_base.specs.declared.plain.OpEnd.{OpEnd}
+use Rattle.hk_base.specs.declared.plain.OpEnd.TheVariants as ends
+use Rattle.hk_base.specs.declared.plain.WireFault.{WireFault}
+use Rattle.hk_spec_streams.specs.Pieces.{completed}
 use Rattle.hk_spec_streams.specs.Grammar.{packet_size}
-use Rattle.hk_spec_streams.specs.Operator.{operator_fault, commands, command_length_fits, ADD_WORDS, PUBLISH}
-use Rattle.hk_spec_matching.specs.Catalogue.{version}
-use Rattle.hk_spec_runs.specs.Desk.{Rules, Desk, present}
-use Rattle.hk_spec_runs.specs.Replay.{Scene}
-use Rattle.hk_operator_wire.specs.Items.{last_command}
-use Rattle.hk_operator_wire.specs.Taken.{HasTaken, limit_of}
-use Rattle.hk_plain.specs.Plain.{Plain}
-use Rattle.hk_operator.specs.Payload.{IsPayload}
+use Rattle.hk_spec_streams.specs.Operator.{Command, AddWords, OpenSong, Audio, Close, Withdraw, Publish, operator_met, operator_fault, commands, command_length_fits, OPEN_SONG}
+use Rattle.hk_spec_streams.specs.Pieces.{is_one_of}
+use Rattle.hk_spec_runs.specs.Desk.{Rules, Desk, Recording, IsReply, after}
+use Rattle.hk_spec_runs.specs.Replay.{Clerk}
+use Rattle.hk_block.specs.Looker.{ShelfView}
+use Rattle.hk_operator_wire.specs.declared.wire.OpWire.{OpWire}
+use Rattle.hk_operator_wire.specs.declared.item.OpItem.{OpItem}
+use Rattle.hk_operator_wire.specs.declared.item.OpItem.TheVariants as items
+use Rattle.hk_operator_wire.specs.Items.{last_command, op_item_at}
+use Rattle.hk_operator_wire.specs.Heads.{is_kind}
+use Rattle.hk_operator_wire.specs.Taken.{HasTaken, limit_of, fault_met}
+use Rattle.hk_operator.specs.Draft.{IsDraft}
+use Rattle.hk_operator.specs.Sound.{IsFixed, IsRecording, sound_ahead}
+use Rattle.hk_operator.specs.Desk.{IsAtDesk}
+use Rattle.hk_operator.specs.declared.done.Done.{Done}
+use Rattle.hk_operator.specs.declared.done.Done.TheVariants.{More, Reply, Publish as Published, Over}
 use Rattle.hk_operator.specs.declared.operator.Operator.{Operator}
+use Rattle.hk_operator.specs.declared.recorder.Recorder.{Recorder}
 
-abbrev pub is_built_kind : ℕ → Bool
-is_built_kind kind = is_one_of (ADD_WORDS ∷ PUBLISH ∷ []) kind
-
--- the bytes of a command that is built: its kind, its length, and no more bytes than that
-pub record IsBuilt (bytes : List ℕ) : Type 0 where
-  pub kind : 0 < length bytes → is_built_kind (slice_index bytes 0) ≡ true
+-- the bytes of a command that has no fault so far
+pub record IsInOrder (bytes : List ℕ) : Type 0 where
+  pub kind : 0 < length bytes → is_kind (slice_index bytes 0) ≡ true
   pub fits : 5 ≤ length bytes → command_length_fits (slice_index bytes 0) (from_be_bytes w32 (take 4 (drop 1 bytes))) ≡ true
+  pub channels : slice_index bytes 0 ≡ OPEN_SONG → 10 ≤ length bytes → is_one_of (1 ∷ 2 ∷ []) (slice_index bytes 9) ≡ true
+  pub factor : slice_index bytes 0 ≡ OPEN_SONG → 11 ≤ length bytes → is_one_of (1 ∷ 2 ∷ 4 ∷ 8 ∷ []) (slice_index bytes 10) ≡ true
   pub within : length bytes ≤ packet_size w32 bytes
 
--- so many words there may be in all songs
-abbrev pub positions_of : Operator → ℕ
-positions_of operator = operator.collected.room
-
--- the rules that are built into the catalogue
-pub record IsPlainRules (rules : Rules) : Type 0 where
-  pub block_size : rules.setting.block_size ≡ 256
-  pub errors : rules.errors ≡ 2867
-
--- The catalogue stands for the desk, on which no song is open.
-pub record IsAtDesk (rules : Rules) (plain : Plain) (desk : Desk) : Type 0 where
-  pub song : desk.song ≡ None
-  pub present : plain.present ≡ present rules desk
-  pub published : plain.published ≡ version rules.limits desk.journal (length desk.journal)
-  pub version : plain.version ≡ length desk.journal
-  pub limits : plain.limits ≡ rules.limits
-
--- The operator has taken these bytes, which have no fault, and keeps the open command's payload and the number of commands.
-pub record HasObeyed (rules : Rules) (operator : Operator) (used : List ℕ) : Type 0 where
+-- The operator has taken these bytes, which have no fault, and keeps the open command, and the open song's words.
+pub record HasObeyed (rules : Rules) (operator : Operator) (used : List ℕ) (song : Option Recording) : Type 0 where
   pub taken : HasTaken operator.wire used
   pub no_fault : operator_fault rules.bytes used ≡ None
+  pub command : IsInOrder (last_command used)
+  pub draft : IsDraft operator.draft (last_command used)
+  pub recording : IsRecording rules operator.recorder song (sound_ahead (last_command used))
+  pub few : length (commands used) ≤ length used
+
+-- The operator has met this fault, behind the bytes that it used.
+pub record HasMet (rules : Rules) (operator : Operator) (fault : WireFault) : Type 0 where
+  pub kept : fault_met operator.wire ≡ Some fault
+  pub text : List ℕ
+  pub taken : HasTaken operator.wire text
+  pub met : operator_fault rules.bytes text ≡ Some fault
+
+abbrev pub IsAtEnd : Rules → Operator → List ℕ → Option Recording → Option OpEnd → Type 0
+IsAtEnd rules operator used song None = HasObeyed rules operator used song
+IsAtEnd rules operator used song (Some (ends.Wire fault)) = HasMet rules operator fault
+IsAtEnd rules operator used song (Some ends.Ended) = ⊥
+IsAtEnd rules operator used song (Some ends.ReadFault) = ⊥
+IsAtEnd rules operator used song (Some ends.SinkFault) = ⊥
+
+-- The operator and its shelf stand for a clerk and a desk.
+pub record IsObeying (rules : Rules) (operator : Operator) (view : ShelfView) (clerk : Clerk) (desk : Desk) : Type 0 where
+  pub fixed : IsFixed rules
+  pub stream : IsAtEnd rules operator clerk.used desk.song clerk.end
+  pub shelf : IsAtDesk rules view desk
+  pub number : operator.commands ≡ length (commands clerk.used)
   pub limit : limit_of operator.wire ≡ rules.bytes
   pub short : rules.bytes < 2 ^ 64
-  pub command : IsBuilt (last_command used)
-  pub payload : IsPayload operator.collected (last_command used)
-  pub number : operator.commands ≡ length (commands used)
-  pub few : length (commands used) ≤ length used
-  pub within : length (last_command used) ≤ length used
-  pub positions : positions_of operator ≡ rules.limits.positions
+  pub room : operator.draft.words.room ≡ rules.limits.positions
+  pub song_room : operator.recorder.words.room ≡ rules.limits.positions
 
--- The operator and its catalogue stand for a run's clerk and desk.
-pub record IsObeying (rules : Rules) (operator : Operator) (plain : Plain) (scene : Scene) : Type 0 where
-  pub fixed : IsPlainRules rules
-  pub going_on : scene.clerk.end ≡ None
-  pub obeyed : HasObeyed rules operator scene.clerk.used
-  pub desk : IsAtDesk rules plain scene.desk
+-- What stands of a desk where a command is whole: the recorder has heard the command's sound, and the shelf has what was staged.
+pub record IsDesk (rules : Rules) (operator : Operator) (view : ShelfView) (desk : Desk) (sound : List ℕ) : Type 0 where
+  pub fixed : IsFixed rules
+  pub recording : IsRecording rules operator.recorder desk.song sound
+  pub shelf : IsAtDesk rules view desk
+  pub room : operator.draft.words.room ≡ rules.limits.positions
+  pub song_room : operator.recorder.words.room ≡ rules.limits.positions
 
--- the catalogue's published songs and its version stay, or it was published
-abbrev pub StaysOrPublishes : Plain → Plain → Type 0
-StaysOrPublishes old new = ((new.published ≡ old.published) × (new.version ≡ old.version)) ⊎ ((new.published ≡ old.present) × (new.version ≡ old.version + 1))
+-- what a wire gives for a byte
+pub record Pushes (old : OpWire) (b : ℕ) (new : OpWire) (item : OpItem) : Type 0 where
+  pub item_is : (text : List ℕ) → HasTaken old text → item ≡ op_item_at (limit_of old) (text ++ b ∷ [])
+  pub taken : (text : List ℕ) → HasTaken old text → HasTaken new (text ++ b ∷ [])
+  pub limit : limit_of new ≡ limit_of old
+  pub same_fault : (fault : WireFault) → fault_met old ≡ Some fault → item ≡ items.Fault fault
+  pub stays : (fault : WireFault) → fault_met old ≡ Some fault → new ≡ old
+
+abbrev pub new_clerk : Clerk
+new_clerk = record { used = []; end = None }
+
+-- the clerk after a byte: over by the fault that it meets, or with the byte used; one that is over stays
+abbrev pub clerk_after : Rules → Clerk → ℕ → Clerk
+clerk_after rules clerk byte =
+    let used = clerk.used ++ byte ∷ [] in
+    if is_some clerk.end then clerk else
+    option_map_or (λ fault. record { used = clerk.used; end = Some (ends.Wire fault) }) (operator_met rules.bytes used) (record { used = used; end = None })
+
+-- the command that a byte ends, none where the clerk is over then
+abbrev pub new_commands : Rules → Clerk → ℕ → List Command
+new_commands rules clerk byte = if is_some (clerk_after rules clerk byte).end then [] else completed commands (clerk.used ++ byte ∷ [])
+
+abbrev pub end_in : Done → Option OpEnd
+end_in (Over end) = Some end
+end_in More = None
+end_in (Reply reply) = None
+end_in (Published number) = None
+
+abbrev pub is_publish : Command → Bool
+is_publish Publish = true
+is_publish (AddWords id words) = false
+is_publish (OpenSong id form) = false
+is_publish (Audio bytes) = false
+is_publish Close = false
+is_publish (Withdraw id) = false
+
+-- A command's reply is given with its number, and what the definitions leave of the desk is left. A publish is handed out with its
+-- number, and leaves the desk as it is. Where no command ends nothing is given, and the desk stays.
+abbrev pub IsAnswered : Rules → Desk → ℕ → List Command → Done → (Desk → Type 0) → Type 0
+IsAnswered rules desk number [] More Leaves = Leaves desk
+IsAnswered rules desk number [] (Over end) Leaves = Leaves desk
+IsAnswered rules desk number [] (Reply reply) Leaves = ⊥
+IsAnswered rules desk number [] (Published n) Leaves = ⊥
+IsAnswered rules desk number (command ∷ more) (Reply reply) Leaves =
+    (more ≡ []) × (is_publish command ≡ false) × (reply.number ≡ number) × IsReply rules desk command reply.what × Leaves (after rules desk command reply.what)
+IsAnswered rules desk number (command ∷ more) (Published n) Leaves = (more ≡ []) × (command ≡ Publish) × (n ≡ number) × Leaves desk
+IsAnswered rules desk number (command ∷ more) More Leaves = ⊥
+IsAnswered rules desk number (command ∷ more) (Over end) Leaves = ⊥
 
 -- the number of the next command
 abbrev pub next_number : Operator → ℕ
 next_number operator = min (operator.commands + 1) (2 ^ 64 - 1)
 
--- the operator with one command more
-abbrev pub counted : Operator → Operator
-counted operator = record operator { commands = next_number operator }
+-- the operator with one command more, and this recorder
+abbrev pub counted : Operator → Recorder → Operator
+counted operator recorder = record operator { commands = next_number operator; recorder = recorder }

@@ -1,16 +1,21 @@
-//! An operator's commands, obeyed byte by byte over one catalogue.
+//! An operator's commands, obeyed byte by byte over a shelf.
 //!
-//! [`Operator`] takes the bytes of an operator's stream, stages added words in a catalogue, publishes it, and writes one
-//! reply for each command. Callers see it, with its catalogue, as the clerk and the desk of a run (`IsObeying`). Only the
-//! commands add words and publish are built, and only where they aren't refused: anything else is answered `NotBuilt`.
-//! It takes memory in `new` alone, and keeps no more of a stream than the open command's payload.
+//! [`Operator`] takes the bytes of an operator's stream. A byte that ends a command is answered with the command's reply,
+//! and a publish is handed to the caller, who publishes on the shelf. Recordings come as words, or as sound that the
+//! operator's own front turns into words. Callers see the operator, with its shelf, as the clerk and the desk of a run
+//! (`IsObeying`). It never publishes, and keeps no more of a stream than the open command and the words of the open song.
 #![tactic(auto)]
 
-mod collected;
-mod obeyed;
+mod done;
+mod draft;
+mod kept;
 mod operator;
+mod part;
+mod recorder;
+mod staging;
 #[cfg(test)]
 mod tests;
 
-pub use obeyed::Obeyed;
+pub use done::Done;
+pub use hk_base::{NoMemory, OpEnd, Reply};
 pub use operator::Operator;

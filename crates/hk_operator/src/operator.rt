@@ -1,168 +1,158 @@
 // The operator.
-ghost use Rattle.std.specs.Prelude.{◌≡◌, ◌≤◌, ◌<◌, ◌==◌, ◌||◌, ◌+◌, ◌++◌, not, ℕ, List, [], ◌∷◌, length, None, is_some, true, false, IfOk};
-ghost use Rattle.hk_base.specs.Devices.{Rose};
-ghost use Rattle.hk_spec_streams.specs.Grammar.{ends_at_start};
-ghost use Rattle.hk_spec_streams.specs.Operator.{operator_grammar, operator_fault, commands};
-ghost use Rattle.hk_spec_runs.specs.Desk.{Rules};
-ghost use Rattle.hk_spec_runs.specs.Replay.{Scene, opening, for_operator};
-ghost use Rattle.hk_spec_runs.specs.Built.{leaves_operator};
-ghost use Rattle.hk_plain.specs.Plain.{Plain, new_catalogue, add_refusal, is_full_of_versions, with_staged, after_publish};
-ghost use Rattle.hk_operator_wire.specs.Taken.{HasTaken, limit_of};
-ghost use Rattle.hk_operator.specs.Answers.{is_not_built, OnGoing, OnNotBuilt, OnSinkFault, HasPrinted, HasTorn, IsAnswered};
+ghost use Rattle.std.specs.Prelude.{◌≡◌, ◌≤◌, ◌^◌, ◌+◌, ℕ, [], ◌∷◌, length, IfOk, is_some, true};
+ghost use Rattle.hk_spec_streams.specs.Operator.{Command, Close, commands};
+ghost use Rattle.hk_spec_runs.specs.Desk.{Rules, Desk, new_desk, IsReply, after};
+ghost use Rattle.hk_spec_runs.specs.Replay.{Clerk, operator_end_of};
+ghost use Rattle.hk_block.specs.Looker.{ShelfView};
+ghost use Rattle.hk_operator.specs.Desk.{IsAtDesk, StaysPublished};
+ghost use Rattle.hk_operator.specs.Draft.{Drafts};
+ghost use Rattle.hk_operator.specs.Sound.{IsFixed, sound_of};
+ghost use Rattle.hk_operator.specs.Obeying.{Pushes};
 
-use crate::collected::{Collected, Step};
-use crate::obeyed::Obeyed;
-use hk_base::{NoMemory, Reply, Sink, What};
-use hk_operator_wire::OpWire;
-use hk_plain::PlainCatalogue;
-use hk_report::write_reply;
+use crate::done::Done;
+use crate::draft::Draft;
+use crate::part::{ends, part_of};
+use crate::recorder::Recorder;
+use crate::staging;
+use hk_base::{NoMemory, OpEnd, Reason, Reply, What};
+use hk_catalogue::Shelf;
+use hk_operator_wire::{OpItem, OpWire};
 use std::alloc::Global;
-
-const HELLO_SIZE: u64 = 4;
 
 const ADD_WORDS: u8 = 1;
 
-const PUBLISH: u8 = 6;
+const OPEN_SONG: u8 = 2;
 
-/// An operator's stream as far as it was obeyed: its wire, the open command's payload, and the number of commands.
+const AUDIO: u8 = 3;
+
+const CLOSE: u8 = 4;
+
+const WITHDRAW: u8 = 5;
+
+/// An operator's stream as far as it was obeyed: its wire, the open command, the open song, and the number of commands.
 #[derive(Drop)]
 pub struct Operator {
+    alloc: Global,
     wire: OpWire,
-    collected: Collected,
+    draft: Draft,
+    recorder: Recorder,
     commands: u64,
 }
 
-impl Operator {
-    ghost use Rattle.hk_operator.specs.Obeying.{IsObeying, IsPlainRules, StaysOrPublishes, positions_of, is_built_kind, next_number, counted};
+// What the wire gives for a byte.
+fn given(wire: &mut OpWire, byte: u8) -> OpItem
+    ensures { Pushes wire.old byte wire.new result }
+{
+    wire.push(byte)
+}
 
-    /// An operator that has taken nothing, for streams of at most `limit` bytes and a catalogue of at most `positions`
-    /// words. It takes room for as many words.
+fn reply(number: u64, what: What) -> Done
+    ensures { result ≡ Done.Reply (record { number = number; what = what }) }
+{
+    Done::Reply(Reply { number, what })
+}
+
+impl Operator {
+    ghost use Rattle.hk_operator.specs.Obeying.{IsObeying, IsDesk, clerk_after, new_clerk, new_commands, end_in, IsAnswered, next_number, counted};
+
+    /// An operator that has taken nothing, for streams of at most `limit` bytes, and a shelf of `positions` words, 256 to
+    /// 2^24. It takes room for as many words of a command and of an open song, so that collecting them takes no memory.
     pub fn new(alloc: Global, limit: u64, positions: u32) -> Result<Operator, NoMemory>
-        ensures opens { IfOk result (λ operator. (rules : Rules) → IsPlainRules rules → rules.bytes ≡ limit → rules.limits.positions ≡ positions
-            → IsObeying rules operator (new_catalogue rules.limits) (opening rules)) }
-        ensures positions { IfOk result (λ operator. positions_of operator ≡ positions) }
+        requires enough { 256 ≤ positions }
+        requires most { positions ≤ 2 ^ 24 }
+        ensures { IfOk result (λ operator. (rules : Rules) (view : ShelfView) → IsFixed rules → rules.bytes ≡ limit → rules.limits.positions ≡ positions
+            → IsAtDesk rules view new_desk → IsObeying rules operator view new_clerk new_desk) }
     {
         Ok(Operator {
+            alloc,
             wire: OpWire::new(limit),
-            collected: Collected::new(alloc, positions)?,
+            draft: Draft::new(alloc, positions)?,
+            recorder: Recorder::new(alloc, positions)?,
             commands: 0,
         })
     }
 
-    /// Takes the stream's next byte. The last byte of a command stages or publishes, and writes its reply. `NotBuilt`
-    /// writes nothing; `SinkFault` leaves a proper front of the reply.
-    pub fn obey<K: Sink>(&mut self, byte: u8, catalogue: &mut PlainCatalogue, out: &mut K) -> Obeyed
-        requires positions { catalogue.old.limits.positions ≡ positions_of self.old }
-        ensures not_built { (rules : Rules) (scene : Scene) → IsObeying rules self.old catalogue.old scene → length scene.clerk.used < rules.bytes
-            → is_not_built result ≡ leaves_operator rules [] scene.desk (scene.clerk.used ++ byte ∷ []) }
-        ensures going { (rules : Rules) (scene : Scene) → IsObeying rules self.old catalogue.old scene → length scene.clerk.used < rules.bytes
-            → OnGoing result (IsObeying rules self.new catalogue.new (for_operator rules [] scene byte)) }
-        ensures printed { (rules : Rules) (scene : Scene) → IsObeying rules self.old catalogue.old scene → length scene.clerk.used < rules.bytes
-            → OnGoing result (HasPrinted scene.printed (for_operator rules [] scene byte).printed (K.written out.old) (K.written out.new)) }
-        ensures torn { (rules : Rules) (scene : Scene) → IsObeying rules self.old catalogue.old scene → length scene.clerk.used < rules.bytes
-            → OnSinkFault result (HasTorn scene.printed (for_operator rules [] scene byte).printed (K.written out.old) (K.written out.new)) }
-        ensures listeners_stay { (rules : Rules) (scene : Scene) → (for_operator rules [] scene byte).listeners ≡ scene.listeners }
-        ensures nothing_written { OnNotBuilt result (K.written out.new ≡ K.written out.old) }
-        ensures cause { OnSinkFault result (Rose (K.faults out.old) (K.faults out.new)) }
-        ensures never_falls { K.faults out.old ≤ K.faults out.new }
-        ensures counts_failures { OnGoing result (K.faults out.new ≡ K.faults out.old) }
-        ensures stays_or_publishes { StaysOrPublishes catalogue.old catalogue.new }
-        ensures limits_stay { catalogue.new.limits ≡ catalogue.old.limits }
-        ensures positions_stay { positions_of self.new ≡ positions_of self.old }
+    /// Takes the stream's next byte. The last byte of a command stages its edit and gives its reply, or hands a publish to
+    /// the caller. After a fault each push answers that fault and changes nothing.
+    pub fn push<S: Shelf>(&mut self, byte: u8, shelf: &mut S) -> Done
+        ensures over { (rules : Rules) (clerk : Clerk) (desk : Desk) → IsObeying rules self.old (S.shelf shelf.old) clerk desk
+            → end_in result ≡ (clerk_after rules clerk byte).end }
+        ensures answered { (rules : Rules) (clerk : Clerk) (desk : Desk) → IsObeying rules self.old (S.shelf shelf.old) clerk desk
+            → IsAnswered rules desk (length (commands clerk.used) + 1) (new_commands rules clerk byte) result
+            (IsObeying rules self.new (S.shelf shelf.new) (clerk_after rules clerk byte)) }
+        ensures over_stays { (rules : Rules) (clerk : Clerk) (desk : Desk) → IsObeying rules self.old (S.shelf shelf.old) clerk desk
+            → is_some clerk.end ≡ true → (self.new ≡ self.old) × (shelf.new ≡ shelf.old) }
+        ensures published { StaysPublished (S.shelf shelf.old) (S.shelf shelf.new) }
     {
-        if !self.is_built(byte) {
-            return Obeyed::NotBuilt;
+        let item = given(&mut self.wire, byte);
+        if let OpItem::Fault(fault) = item {
+            return Done::Over(OpEnd::Wire(fault));
         }
-        let item = self.wire.push(byte);
-        match self.collected.take(item) {
-            Step::Open => Obeyed::Going,
-            Step::Add => self.add(catalogue, out),
-            Step::Publish => self.publish(catalogue, out),
-            Step::Other => Obeyed::NotBuilt,
+        let part = part_of(item);
+        self.draft.take(part);
+        self.recorder.take(part);
+        if ends(item) {
+            self.complete(shelf)
+        } else {
+            Done::More
         }
     }
 
-    /// Whether the stream may end here: no byte came, or the last command is whole. Changes nothing.
-    pub fn may_end(&mut self) -> bool
-        ensures ends { (rules : Rules) (plain : Plain) (scene : Scene) → IsObeying rules self.old plain scene
-            → result ≡ ((length scene.clerk.used == 0) || ends_at_start operator_grammar scene.clerk.used) }
+    // Obeys the command, which is whole.
+    fn complete<S: Shelf>(&mut self, shelf: &mut S) -> Done
+        ensures answered { (rules : Rules) (desk : Desk) (command : Command) → IsDesk rules self.old (S.shelf shelf.old) desk (sound_of command)
+            → Drafts self.old.draft command
+            → IsAnswered rules desk (next_number self.old) (command ∷ []) result (λ now. IsDesk rules self.new (S.shelf shelf.new) now []) }
+        ensures kept { self.new ≡ counted self.old self.new.recorder }
+        ensures published { StaysPublished (S.shelf shelf.old) (S.shelf shelf.new) }
+    {
+        let number = self.commands.saturating_add(1);
+        self.commands = number;
+        let id = self.draft.id;
+        match self.draft.kind {
+            ADD_WORDS => reply(
+                number,
+                staging::add(self.alloc, id, &self.draft.words, shelf),
+            ),
+            OPEN_SONG => reply(number, self.recorder.open(id, self.draft.form)),
+            AUDIO => reply(number, self.recorder.audio()),
+            CLOSE => reply(number, self.close(shelf)),
+            WITHDRAW => reply(number, staging::withdraw(id, shelf)),
+            _ => Done::Publish(number),
+        }
+    }
+
+    // Stages the open song, which is open no more.
+    fn close<S: Shelf>(&mut self, shelf: &mut S) -> What
+        ensures decided { (rules : Rules) (desk : Desk) → IsDesk rules self.old (S.shelf shelf.old) desk []
+            → IsReply rules desk Close result × IsDesk rules self.new (S.shelf shelf.new) (after rules desk Close result) [] }
+        ensures kept { self.new ≡ record self.old { recorder = self.new.recorder } }
+        ensures published { StaysPublished (S.shelf shelf.old) (S.shelf shelf.new) }
+    {
+        match self.recorder.song.take() {
+            Some(id) => staging::add(self.alloc, id, &self.recorder.words, shelf),
+            None => What::Refused(Reason::NoSongOpen),
+        }
+    }
+
+    /// How the stream ends here: by the fault that it met, with Ended where no byte came or the last command is whole, and
+    /// else with Cut. Changes nothing.
+    pub fn finish(&mut self) -> OpEnd
+        ensures end { (rules : Rules) (view : ShelfView) (clerk : Clerk) (desk : Desk) → IsObeying rules self.old view clerk desk
+            → result ≡ operator_end_of rules clerk }
         ensures changes_nothing { self.new ≡ self.old }
     {
-        self.wire.finish().is_ok()
+        match self.wire.finish() {
+            Ok(()) => OpEnd::Ended,
+            Err(fault) => OpEnd::Wire(fault),
+        }
     }
 
-    /// How many commands were obeyed.
+    /// How many commands were answered, publishes too.
     pub fn commands(&self) -> u64
-        ensures { (rules : Rules) (plain : Plain) (scene : Scene) → IsObeying rules self.now plain scene → result ≡ length (commands scene.clerk.used) }
+        ensures { (rules : Rules) (view : ShelfView) (clerk : Clerk) (desk : Desk) → IsObeying rules self.now view clerk desk
+            → result ≡ length (commands clerk.used) }
     {
         self.commands
-    }
-
-    // Whether the next byte begins a command.
-    fn begins(&mut self) -> bool
-        ensures value { (text : List ℕ) → HasTaken self.old.wire text → operator_fault (limit_of self.old.wire) text ≡ None
-            → result ≡ ends_at_start operator_grammar text }
-        ensures changes_nothing { self.new ≡ self.old }
-    {
-        HELLO_SIZE <= self.wire.taken() && self.wire.finish().is_ok()
-    }
-
-    // Whether the byte may stand here: a command that begins is added words or a publish.
-    fn is_built(&mut self, byte: u8) -> bool
-        ensures value { (text : List ℕ) → HasTaken self.old.wire text → operator_fault (limit_of self.old.wire) text ≡ None
-            → result ≡ (not (ends_at_start operator_grammar text) || is_built_kind byte) }
-        ensures changes_nothing { self.new ≡ self.old }
-    {
-        !self.begins() || byte == ADD_WORDS || byte == PUBLISH
-    }
-
-    // Stages the collected words.
-    fn add<K: Sink>(&mut self, catalogue: &mut PlainCatalogue, out: &mut K) -> Obeyed
-        requires positions { catalogue.old.limits.positions ≡ positions_of self.old }
-        ensures refused { is_not_built result ≡ is_some (add_refusal catalogue.old self.old.collected.id self.old.collected.count) }
-        ensures staged { is_not_built result ≡ false → catalogue.new ≡ with_staged catalogue.old self.old.collected.id self.old.collected.words }
-        ensures nothing_staged { is_not_built result ≡ true → catalogue.new ≡ catalogue.old }
-        ensures answered { is_not_built result ≡ false
-            → IsAnswered result (next_number self.old) What.Done (K.written out.old) (K.written out.new) (K.faults out.old) (K.faults out.new) }
-        ensures nothing_written { is_not_built result ≡ true → out.new ≡ out.old }
-        ensures counted { self.new ≡ counted self.old }
-    {
-        self.commands = self.commands.saturating_add(1);
-        let id = self.collected.id();
-        match catalogue.check_add(id, self.collected.count()) {
-            Some(_) => Obeyed::NotBuilt,
-            None => {
-                catalogue.stage(id, self.collected.words());
-                reply(self.commands, What::Done, out)
-            }
-        }
-    }
-
-    // Publishes what is staged.
-    fn publish<K: Sink>(&mut self, catalogue: &mut PlainCatalogue, out: &mut K) -> Obeyed
-        ensures refused { is_not_built result ≡ is_full_of_versions catalogue.old }
-        ensures published { is_not_built result ≡ false → catalogue.new ≡ after_publish catalogue.old }
-        ensures nothing_published { is_not_built result ≡ true → catalogue.new ≡ catalogue.old }
-        ensures answered { is_not_built result ≡ false
-            → IsAnswered result (next_number self.old) (What.Published (catalogue.old.version + 1)) (K.written out.old) (K.written out.new) (K.faults out.old) (K.faults out.new) }
-        ensures nothing_written { is_not_built result ≡ true → out.new ≡ out.old }
-        ensures counted { self.new ≡ counted self.old }
-    {
-        self.commands = self.commands.saturating_add(1);
-        if catalogue.is_full_of_versions() {
-            return Obeyed::NotBuilt;
-        }
-        let version = catalogue.publish();
-        reply(self.commands, What::Published(version), out)
-    }
-}
-
-// Writes a command's reply.
-fn reply<K: Sink>(number: u64, what: What, out: &mut K) -> Obeyed
-    ensures { IsAnswered result number what (K.written out.old) (K.written out.new) (K.faults out.old) (K.faults out.new) }
-{
-    match write_reply(out, &Reply { number, what }) {
-        Ok(()) => Obeyed::Going,
-        Err(_) => Obeyed::SinkFault,
     }
 }

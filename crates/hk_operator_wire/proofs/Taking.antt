@@ -1,23 +1,16 @@
 -- What a wire that has met no fault takes of the next byte.
-use Rattle.std.proofs.Common.{◌≡◌, ℕ, ◌+◌, List, [], ◌∷◌, ◌++◌, length, refl, ◌∙◌, ap, length-append, Some, None, cond}
-use Rattle.std.specs.Prelude.{◌==◌, ◌||◌}
+use Rattle.std.proofs.Common.{◌≡◌, ℕ, ◌+◌, List, [], ◌∷◌, ◌++◌, refl, ◌∙◌, ap, Some, None}
 use Rattle.std.specs.Option.{option_map_or, option_or}
 use Rattle.hk_base.specs.declared.plain.WireFault.{WireFault}
-use Rattle.hk_base.specs.declared.plain.WireFault.TheVariants.{Cut}
 use Rattle.hk_spec_streams.specs.Pieces.{first_met}
-use Rattle.hk_spec_streams.specs.Grammar.{ends_at_start}
-use Rattle.hk_spec_streams.specs.Operator.{operator_grammar, operator_met, operator_fault, operator_seen, operator_wrong}
+use Rattle.hk_spec_streams.specs.Operator.{operator_met, operator_fault}
 use Rattle.hk_spec_streams.proofs.FirstFault.{fault_of-append}
-use Rattle.hk_spec_streams.proofs.NextFault.{seen_of-all}
 use Rattle.hk_operator_wire.specs.declared.item.OpItem.TheVariants as items
 use Rattle.hk_operator_wire.specs.Items.{last_command, item_of, op_item_at}
 
 pub no_text : (limit : ℕ) → operator_fault limit [] ≡ None
 unfolding first_met
 no_text limit = refl
-
-pub nothing_seen : (limit : ℕ) → length (operator_seen limit []) ≡ 0
-nothing_seen limit = ap length (seen_of-all (operator_met limit) [] (no_text limit))
 
 pub item_at_fault : (limit : ℕ) (text : List ℕ) (fault : WireFault) → operator_fault limit text ≡ Some fault → op_item_at limit text ≡ items.Fault fault
 unfolding op_item_at

@@ -4,7 +4,7 @@ use Rattle.hk_base.specs.declared.plain.WireFault.{WireFault}
 use Rattle.hk_operator_wire.specs.declared.reader.OpReader.{OpReader}
 use Rattle.hk_operator_wire.specs.declared.wire.OpWire.{OpWire}
 use Rattle.hk_station_wire.specs.Held.{IsLast, count_of}
-use Rattle.hk_station_wire.specs.Kept.{Keeps}
+use Rattle.hk_station_wire.specs.Kept.{Keeps, passage_limit, fault_kept}
 use Rattle.hk_spec_streams.specs.Operator.{operator_met}
 use Rattle.hk_operator_wire.specs.Items.{last_command}
 use Rattle.hk_operator_wire.specs.Heads.{Ends}
@@ -20,13 +20,13 @@ pub record StandsAfter (reader : OpReader) (text : List ℕ) : Type 0 where
 
 -- at most so many bytes are taken
 abbrev pub limit_of : OpWire → ℕ
-limit_of wire = wire.limit
+limit_of wire = passage_limit wire.passage
 
 -- the fault that the wire has met
 abbrev pub fault_met : OpWire → Option WireFault
-fault_met wire = wire.fault
+fault_met wire = fault_kept wire.passage
 
 -- The wire has taken this text: it keeps the text's fault, and where there is none it stands at the text's end.
 pub record HasTaken (wire : OpWire) (text : List ℕ) : Type 0 where
-  pub keeps : Keeps (operator_met wire.limit) wire.fault wire.taken text
-  pub stands : wire.fault ≡ None → StandsAfter wire.reader text
+  pub keeps : Keeps operator_met wire.passage text
+  pub stands : fault_kept wire.passage ≡ None → StandsAfter wire.reader text

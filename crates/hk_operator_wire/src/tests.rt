@@ -30,19 +30,32 @@ fn words_come_one_by_one(rt: HostRuntime) {
 
 #[test]
 fn last_bytes_end_commands(rt: HostRuntime) {
-    let publish = b"HKO1\x06\0\0\0\0";
-    assert_eq!(rt; last_item(publish), OpItem::Both(OpLast::BeginComplete(6)));
-    let withdraw = b"HKO1\x06\0\0\0\0\x05\0\0\0\x04\0\0\x01\0";
-    assert_eq!(rt; last_item(withdraw), OpItem::Both(OpLast::IdComplete(256)));
+    let no_words = b"HKO1\x01\0\0\0\x04\x80\0\0\0";
+    assert_eq!(rt;
+        last_item(no_words),
+        OpItem::Both(OpLast::IdComplete(2147483648))
+    );
     let open = b"HKO1\x02\0\0\0\x06\0\0\0\x03\x02\x08";
     let form = Form {
         channels: 2,
         factor: 8,
     };
+    assert_eq!(rt; last_item(&open[..13]), OpItem::Id(3));
+    assert_eq!(rt; last_item(&open[..14]), OpItem::Nothing);
     assert_eq!(rt; last_item(open), OpItem::Both(OpLast::FormComplete(form)));
     let audio = b"HKO1\x03\0\0\0\x02\x09\x0a";
     assert_eq!(rt; last_item(&audio[..10]), OpItem::Byte(9));
     assert_eq!(rt; last_item(audio), OpItem::Both(OpLast::ByteComplete(10)));
+    let no_audio = b"HKO1\x03\0\0\0\0";
+    assert_eq!(rt; last_item(no_audio), OpItem::Both(OpLast::BeginComplete(3)));
+    let close = b"HKO1\x04\0\0\0\0";
+    assert_eq!(rt; last_item(close), OpItem::Both(OpLast::BeginComplete(4)));
+    let withdraw = b"HKO1\x06\0\0\0\0\x05\0\0\0\x04\0\0\x01\0";
+    assert_eq!(rt;
+        last_item(&withdraw[..9]),
+        OpItem::Both(OpLast::BeginComplete(6))
+    );
+    assert_eq!(rt; last_item(withdraw), OpItem::Both(OpLast::IdComplete(256)));
 }
 
 #[test]
@@ -52,23 +65,38 @@ fn faults_stand_at_their_places(rt: HostRuntime) {
         last_item(b"HKO1\xff"),
         OpItem::Fault(WireFault::BadKind(4))
     );
+    let length = b"HKO1\x06\x01\0\0\x02\0";
+    assert_eq!(rt; last_item(&length[..8]), OpItem::Nothing);
+    assert_eq!(rt;
+        last_item(&length[..9]),
+        OpItem::Fault(WireFault::BadLength(5))
+    );
+    assert_eq!(rt; last_item(length), OpItem::Fault(WireFault::BadLength(5)));
     assert_eq!(rt;
         last_item(b"HKO1\x01\0\0\0\x06"),
         OpItem::Fault(WireFault::BadLength(5))
     );
     let channels = b"HKO1\x02\0\0\0\x06\0\0\0\x03\x03\x01";
     assert_eq!(rt;
+        last_item(&channels[..14]),
+        OpItem::Fault(WireFault::BadFormat(13))
+    );
+    assert_eq!(rt;
         last_item(channels),
         OpItem::Fault(WireFault::BadFormat(13))
     );
+    let factor = b"HKO1\x02\0\0\0\x06\0\0\0\x03\x01\x03";
+    assert_eq!(rt; last_item(factor), OpItem::Fault(WireFault::BadFormat(14)));
 }
 
 #[test]
 fn streams_end_between_commands(rt: HostRuntime) {
     let mut wire = OpWire::new(6);
     assert_eq!(rt; wire.finish(), Ok(()));
-    for byte in HELLO {
-        wire.push(byte);
+    wire.push(b'H');
+    assert_eq!(rt; wire.finish(), Err(WireFault::Cut(1)));
+    for byte in &HELLO[1..] {
+        wire.push(*byte);
     }
     assert_eq!(rt; wire.finish(), Ok(()));
     wire.push(6);

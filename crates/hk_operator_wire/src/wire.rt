@@ -4,21 +4,20 @@ ghost use Rattle.std.specs.Result.{result_err};
 ghost use Rattle.hk_base.specs.declared.plain.WireFault.{WireFault};
 ghost use Rattle.hk_spec_streams.specs.Operator.{operator_wrong, operator_seen};
 ghost use Rattle.hk_station_wire.specs.Held.{count_of};
+ghost use Rattle.hk_station_wire.specs.Kept.{bytes_taken, fault_kept};
 
 use crate::item::OpItem;
 use crate::reader::OpReader;
 use hk_base::WireFault;
+use hk_station_wire::Passage;
 
 /// An operator's stream as far as it was taken. It keeps its place, its last command's first and last bytes and its
 /// fault, and no history.
 #[derive(Debug, Drop)]
 pub struct OpWire {
-    limit: u64,
-    taken: u64,
+    passage: Passage,
     reader: OpReader,
-    fault: Option<WireFault>,
-    ghost within: { taken ≤ limit },
-    ghost begun: { fault ≡ None → count_of reader.packet ≤ taken },
+    ghost begun: { fault_kept passage ≡ None → count_of reader.packet ≤ bytes_taken passage },
 }
 
 impl OpWire {
@@ -31,10 +30,8 @@ impl OpWire {
         ensures limit { limit_of result ≡ limit }
     {
         OpWire {
-            limit,
-            taken: 0,
+            passage: Passage::new(limit),
             reader: OpReader::new(),
-            fault: None,
         }
     }
 
@@ -47,31 +44,17 @@ impl OpWire {
         ensures same_fault { (fault : WireFault) → fault_met self.old ≡ Some fault → result ≡ OpItem.Fault fault }
         ensures fault_changes_nothing { (fault : WireFault) → fault_met self.old ≡ Some fault → self.new ≡ self.old }
     {
-        match self.fault {
-            Some(fault) => OpItem::Fault(fault),
-            None => self.take(byte),
-        }
-    }
-
-    // Takes the next byte where no fault was met.
-    fn take(&mut self, byte: u8) -> OpItem
-        requires { fault_met self.old ≡ None }
-        ensures item { (text : List ℕ) → HasTaken self.old text → result ≡ op_item_at (limit_of self.old) (text ++ byte ∷ []) }
-        ensures taken { (text : List ℕ) → HasTaken self.old text → HasTaken self.new (text ++ byte ∷ []) }
-        ensures limit_stays { limit_of self.new ≡ limit_of self.old }
-    {
-        if self.taken == self.limit {
-            let fault = WireFault::TooLong(self.limit);
-            self.fault = Some(fault);
-            return OpItem::Fault(fault);
-        }
-        match self.reader.take(self.taken, byte) {
+        let place = match self.passage.next_place() {
+            Ok(place) => place,
+            Err(fault) => return OpItem::Fault(fault),
+        };
+        match self.reader.take(place, byte) {
             Ok(item) => {
-                self.taken += 1;
+                self.passage.advance();
                 item
             }
             Err(fault) => {
-                self.fault = Some(fault);
+                self.passage.fail(fault);
                 OpItem::Fault(fault)
             }
         }
@@ -83,17 +66,14 @@ impl OpWire {
         ensures outcome { (text : List ℕ) → HasTaken self.old text → result_err result ≡ operator_wrong (limit_of self.old) text }
         ensures changes_nothing { self.new ≡ self.old }
     {
-        match self.fault {
-            Some(fault) => Err(fault),
-            None if self.reader.may_end(self.taken) => Ok(()),
-            None => Err(WireFault::Cut(self.taken)),
-        }
+        let may_end = self.reader.may_end(self.passage.taken());
+        self.passage.finish(may_end)
     }
 
     /// How many bytes were taken before the fault, or in all.
     pub fn taken(&self) -> u64
         ensures { (text : List ℕ) → HasTaken self.now text → result ≡ length (operator_seen (limit_of self.now) text) }
     {
-        self.taken
+        self.passage.taken()
     }
 }

@@ -1,5 +1,5 @@
 -- More bytes of sound print more: what was printed stays in front.
-use Rattle.std.proofs.Common.{◌≡◌, ℕ, suc, zero, ◌+◌, ◌-◌, ◌*◌, ◌^◌, ◌<◌, ℤ, List, [], ◌∷◌, ◌++◌, length, map, refl, sym, ◌∙◌, ap, arith, append_assoc, append-nil, cond}
+use Rattle.std.proofs.Common.{◌≡◌, ℕ, suc, zero, ◌+◌, ◌-◌, ◌*◌, ◌^◌, ◌<◌, ℤ, List, [], ◌∷◌, ◌++◌, length, map, refl, ◌∙◌, ap, arith, cond}
 use Rattle.std.proofs.lemmas.List.{map-append}
 use Rattle.std.proofs.lemmas.Grind.{flat_map-append}
 use Rattle.std.specs.Prelude.{flat_map, option_map, option_to_list}
@@ -8,33 +8,13 @@ use Rattle.hk_base.specs.declared.plain.Print.{Print}
 use Rattle.hk_spec_sound.specs.Windows.{windows, adjacent, window, window_count, last_of}
 use Rattle.hk_spec_sound.specs.Samples.{samples_of, mono_of, decimated, weighted_mean}
 use Rattle.hk_spec_sound.specs.Prints.{Analysis, full_analysis, energies_of, frame_energies, differences, print_of, prints_of_samples, prints_of_sound}
+use Rattle.hk_spec_sound.proofs.Growing.{Grows, by_one, after}
 use Rattle.hk_spec_sound.proofs.GrowingWindows.{windows-append, completes}
 use Rattle.hk_spec_sound.proofs.GrowingPrints.{adjacent-append}
 use Rattle.hk_spec_streams.proofs.GrowingBlocks.{enumerate-append, no_prints}
 use Rattle.hk_spec_lines.specs.Lines.{print_line}
 use Rattle.hk_spec_runs.specs.Words.{Printing}
 use Rattle.hk_printer.specs.Sounding.{lines_of}
-
--- more items in, more items out
-pub Grows : {A B : Type 0} → (List A → List B) → Type 0
-Grows {A} {B} f = (xs ys : List A) → (more : List B) × (f (xs ++ ys) ≡ f xs ++ more)
-
--- by one item at a time
-by_one : {A B : Type 0} (f : List A → List B) → ((xs : List A) (x : A) → (more : List B) × (f (xs ++ x ∷ []) ≡ f xs ++ more)) → Grows f
-unfolding Grows
-by_one f step xs [] = ([], ap f (append-nil xs) ∙ sym (append-nil (f xs)))
-by_one f step xs (y ∷ ys) =
-    let one = step xs y in
-    let rest = by_one f step (xs ++ y ∷ []) ys in
-    (one.0 ++ rest.0, ap f (sym (append_assoc xs (y ∷ []) ys)) ∙ rest.1 ∙ ap (λ t. t ++ rest.0) one.1 ∙ append_assoc (f xs) one.0 rest.0)
-
--- one after the other
-after : {A B C : Type 0} (g : List B → List C) (f : List A → List B) → Grows g → Grows f → Grows (λ xs. g (f xs))
-unfolding Grows
-after g f g_grows f_grows xs ys =
-    let inner = f_grows xs ys in
-    let outer = g_grows (f xs) inner.0 in
-    (outer.0, ap g inner.1 ∙ outer.1)
 
 mapped : {A B : Type 0} (f : A → B) → Grows (map f)
 unfolding Grows

@@ -1,9 +1,1 @@
-mod Form
-mod Arriving
-mod PlayLaws
-mod Holding
-mod HoldSteps
-mod TakeSteps
-mod Summing
-mod Opening
-mod Endings
+pub mod Doing

@@ -1,14 +1,12 @@
-//! The replay of an input on one thread.
+//! The replay of an input on one thread, and the printing of sound.
 //!
-//! [`replay_top`] reads an input, follows its streams and writes what the definitions print for the bytes that it read. By now it
-//! takes one station of prints and an operator that adds recordings and publishes them; all else is refused at its place.
-//! It reads pieces of at most 4096 bytes and keeps no input; all memory is taken before the first read.
+//! [`replay_top`] does what the words of the command line ask for: it replays an input of records, for up to 64 stations and
+//! an operator, or prints sound as sub-fingerprints. Callers see, for each status, what was read and what was written, by the
+//! definitions over the whole input. It reads pieces of at most 4096 bytes and keeps no input.
 #![tactic(auto)]
 
-mod conclude;
-mod input;
-mod play;
-mod run;
+mod printing;
+mod replaying;
 mod top;
 
 pub use hk_base::{Sink, Source, Status};

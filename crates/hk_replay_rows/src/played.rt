@@ -4,12 +4,13 @@ use hk_replay::replay_top;
 use std::alloc::Global;
 use std::test::Fail;
 
-/// The devices of a run: how its input is read, which reads fail, and which writes.
+/// The devices of a run: how its input is read, which reads fail, which writes, and how many bytes the output has room for.
 #[derive(Drop)]
 pub struct Devices {
     pub cuts: Vec<usize>,
     pub failing_reads: Vec<u64>,
     pub failing_writes: Vec<u64>,
+    pub room: u32,
 }
 
 impl Devices {
@@ -19,6 +20,7 @@ impl Devices {
             cuts: Vec::new(alloc),
             failing_reads: Vec::new(alloc),
             failing_writes: Vec::new(alloc),
+            room: 65536,
         }
     }
 }
@@ -38,9 +40,10 @@ pub fn played_with(
         cuts,
         failing_reads,
         failing_writes,
+        room,
     } = devices;
     let mut source = MemorySource::new(input, cuts, failing_reads);
-    let mut sink = match MemorySink::new(alloc, 65536, failing_writes) {
+    let mut sink = match MemorySink::new(alloc, room, failing_writes) {
         Ok(sink) => sink,
         Err(_) => return Err(Fail::from("no memory for the sink")),
     };
@@ -49,7 +52,12 @@ pub fn played_with(
     Ok((status.code, text))
 }
 
-/// The status and the text of a replay over devices that never fail.
+/// The status and the text of a run with these words over devices that never fail.
+pub fn played_by(alloc: Global, words: &[&str], input: Vec<u8>) -> Result<(u8, String), Fail> {
+    played_with(alloc, words, input, Devices::new(alloc))
+}
+
+/// The status and the text of a replay with no options over devices that never fail.
 pub fn played(alloc: Global, input: Vec<u8>) -> Result<(u8, String), Fail> {
-    played_with(alloc, &["replay"], input, Devices::new(alloc))
+    played_by(alloc, &["replay"], input)
 }

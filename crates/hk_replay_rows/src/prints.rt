@@ -1,16 +1,8 @@
 // Sound that is printed.
-use crate::played::{Devices, played_with};
+use crate::played::{Devices, played_by, played_with};
+use crate::samples::{digest, pseudo_random, silence};
 use std::alloc::Global;
 use std::test::Fail;
-
-// So many bytes of silence.
-fn silence(alloc: Global, count: usize) -> Result<Vec<u8>, Fail> {
-    let mut bytes = Vec::new(alloc);
-    for _ in 0..count {
-        bytes.push(0)?;
-    }
-    Ok(bytes)
-}
 
 // The lines of so many prints of silence.
 fn lines(alloc: Global, count: u32, mask: &str) -> Result<String, Fail> {
@@ -27,12 +19,7 @@ fn silence_has_the_lowest_bits_weak(rt: HostRuntime) -> Result<(), Fail> {
     let alloc = rt.alloc();
     let words = ["print", "--channels", "1", "--factor", "1"];
     for (bytes, count) in [(36864, 256), (36862, 255), (0, 0)] {
-        let (status, text) = played_with(
-            alloc,
-            words.as_slice(),
-            silence(alloc, bytes)?,
-            Devices::new(alloc),
-        )?;
+        let (status, text) = played_by(alloc, &words, silence(alloc, bytes)?)?;
         let want = lines(alloc, count, "0000000f")?;
         assert_eq!(rt; text.as_str(), want.as_str());
         assert_eq!(rt; status, 0);
@@ -44,12 +31,7 @@ fn silence_has_the_lowest_bits_weak(rt: HostRuntime) -> Result<(), Fail> {
 fn no_flips_leave_no_bit_weak(rt: HostRuntime) -> Result<(), Fail> {
     let alloc = rt.alloc();
     let words = ["print", "--flips", "0", "--factor", "1"];
-    let (status, text) = played_with(
-        alloc,
-        words.as_slice(),
-        silence(alloc, 36864)?,
-        Devices::new(alloc),
-    )?;
+    let (status, text) = played_by(alloc, &words, silence(alloc, 36864)?)?;
     let want = lines(alloc, 256, "00000000")?;
     assert_eq!(rt; text.as_str(), want.as_str());
     assert_eq!(rt; status, 0);
@@ -61,12 +43,7 @@ fn one_byte_over_the_limit_is_told(rt: HostRuntime) -> Result<(), Fail> {
     let alloc = rt.alloc();
     let words = ["print", "--bytes", "10"];
     for (bytes, want, code) in [(10, "", 0), (11, "R too-long 10\n", 7)] {
-        let (status, text) = played_with(
-            alloc,
-            words.as_slice(),
-            silence(alloc, bytes)?,
-            Devices::new(alloc),
-        )?;
+        let (status, text) = played_by(alloc, &words, silence(alloc, bytes)?)?;
         assert_eq!(rt; text.as_str(), want);
         assert_eq!(rt; status, code);
     }
@@ -74,7 +51,7 @@ fn one_byte_over_the_limit_is_told(rt: HostRuntime) -> Result<(), Fail> {
 }
 
 #[test]
-fn other_words_are_no_command(rt: HostRuntime) -> Result<(), Fail> {
+fn other_words_are_no_printing(rt: HostRuntime) -> Result<(), Fail> {
     let alloc = rt.alloc();
     let lists: [&[&str]; 6] = [
         &[],
@@ -85,7 +62,7 @@ fn other_words_are_no_command(rt: HostRuntime) -> Result<(), Fail> {
         &["print", "--bytes", "00000000000000000005"],
     ];
     for words in lists {
-        let (status, text) = played_with(alloc, words, silence(alloc, 4)?, Devices::new(alloc))?;
+        let (status, text) = played_by(alloc, words, silence(alloc, 4)?)?;
         assert_eq!(rt; text.as_str(), "");
         assert_eq!(rt; status, 2);
     }
@@ -101,30 +78,6 @@ fn a_failed_read_is_told_behind_the_prints(rt: HostRuntime) -> Result<(), Fail> 
     assert_eq!(rt; text.as_str(), "R read-fault\n");
     assert_eq!(rt; status, 5);
     Ok(())
-}
-
-// Pseudo-random samples of 16 bits, as tools/print_sound.py makes them.
-fn pseudo_random(alloc: Global, samples: u32) -> Result<Vec<u8>, Fail> {
-    let mut bytes = Vec::new(alloc);
-    let mut state: u64 = 17;
-    for _ in 0..samples {
-        state = state.wrapping_mul(1103515245).wrapping_add(12345) % 2147483648;
-        let part = (state / 32768).to_le_bytes();
-        bytes.push(part[0])?;
-        bytes.push(part[1] ^ 0x80)?;
-    }
-    Ok(bytes)
-}
-
-// A number that tells texts apart.
-fn digest(text: &str) -> u64 {
-    let mut digest: u64 = 0;
-    for byte in text.as_bytes() {
-        digest = digest
-            .wrapping_mul(6364136223846793005)
-            .wrapping_add(u64::from(*byte));
-    }
-    digest
 }
 
 // The digest of the 312 lines of four seconds in stereo is the one that tools/print_sound.py tells.
@@ -153,5 +106,25 @@ fn pseudo_random_sound_in_any_pieces(rt: HostRuntime) -> Result<(), Fail> {
         );
         assert_eq!(rt; status, 0);
     }
+    Ok(())
+}
+
+// Sixty seconds in stereo, of which tools/print_sound.py tells the lines, and tools/rows_sixty_seconds.py their digest.
+#[test]
+fn sixty_seconds_of_sound_are_printed(rt: HostRuntime) -> Result<(), Fail> {
+    let alloc = rt.alloc();
+    let mut devices = Devices::new(alloc);
+    devices.room = 131072;
+    let words = ["print", "--channels", "2", "--factor", "8"];
+    let sound = pseudo_random(alloc, 5292000)?;
+    assert_eq!(rt; sound.len(), 10584000);
+    let (status, text) = played_with(alloc, &words, sound, devices)?;
+    assert!(rt;
+        text.as_str()
+            .starts_with("0 995b52d1 00101104\n1 9d1b53d3 04400102\n")
+    );
+    assert!(rt; text.as_str().ends_with("\n5134 2c961dbb 48004020\n"));
+    assert_eq!(rt; digest(text.as_str()), 6000229630557246903);
+    assert_eq!(rt; status, 0);
     Ok(())
 }

@@ -1,8 +1,9 @@
 // Whole inputs that are replayed to their end.
-use crate::played::{Devices, played, played_with};
+use crate::played::played;
 use crate::streams::{
-    FIRST_TEXT, OPERATOR_HELLO, STATION_HELLO, first_input, input, input_by_bytes, numbers,
-    published, push_add, push_operator, push_prints, push_publish, push_station, sent,
+    FIRST_TEXT, MOST, OPERATOR_HELLO, STATION_HELLO, To, first_input, first_operator,
+    first_station, input, numbers, published, push_add, push_operator, push_prints, push_publish,
+    push_station, records, sent,
 };
 use std::test::Fail;
 
@@ -88,12 +89,10 @@ fn each_start_is_listed_once(rt: HostRuntime) -> Result<(), Fail> {
 }
 
 #[test]
-fn blocks_come_at_every_hop(rt: HostRuntime) -> Result<(), Fail> {
+fn blocks_come_every_64_prints(rt: HostRuntime) -> Result<(), Fail> {
     let alloc = rt.alloc();
-    let first = "S 0 B 0 G 0 W 0 V 0: none\n";
-    let second = "S 0 B 1 G 0 W 64 V 0: none\n";
     for (count, lines, blocks) in [
-        (319, first, 1),
+        (319, "S 0 B 0 G 0 W 0 V 0: none\n", 1),
         (
             320,
             concat!(
@@ -109,7 +108,6 @@ fn blocks_come_at_every_hop(rt: HostRuntime) -> Result<(), Fail> {
         assert_eq!(rt; text.as_str(), want.as_str());
         assert_eq!(rt; status, 0);
     }
-    let _ = second;
     Ok(())
 }
 
@@ -148,21 +146,6 @@ fn a_block_sees_what_was_published_before_its_last_byte(rt: HostRuntime) -> Resu
 }
 
 #[test]
-fn records_of_one_byte_change_nothing(rt: HostRuntime) -> Result<(), Fail> {
-    let alloc = rt.alloc();
-    let words = numbers(alloc, 0, 256)?;
-    let operator = published(alloc, 7, words.as_slice())?;
-    let station = sent(alloc, words.as_slice())?;
-    let (status, text) = played(
-        alloc,
-        input_by_bytes(alloc, operator.as_slice(), station.as_slice())?,
-    )?;
-    assert_eq!(rt; text.as_str(), FIRST_TEXT);
-    assert_eq!(rt; status, 0);
-    Ok(())
-}
-
-#[test]
 fn a_hello_alone_ends_in_order(rt: HostRuntime) -> Result<(), Fail> {
     let (status, text) = played(
         rt.alloc(),
@@ -174,14 +157,18 @@ fn a_hello_alone_ends_in_order(rt: HostRuntime) -> Result<(), Fail> {
 }
 
 #[test]
-fn other_words_are_bad_usage(rt: HostRuntime) -> Result<(), Fail> {
+fn records_of_any_length_change_nothing(rt: HostRuntime) -> Result<(), Fail> {
     let alloc = rt.alloc();
-    let none: [&str; 0] = [];
-    let (status, text) = played_with(alloc, &none, first_input(alloc)?, Devices::new(alloc))?;
-    assert_eq!(rt; (status, text.is_empty()), (2, true));
-    for words in [["replay", "--hop"], ["print", "replay"]] {
-        let (status, text) = played_with(alloc, &words, first_input(alloc)?, Devices::new(alloc))?;
-        assert_eq!(rt; (status, text.is_empty()), (2, true));
+    let operator = first_operator(alloc)?;
+    let station = first_station(alloc)?;
+    for most in [1, 2, 1000, MOST] {
+        let parts = [
+            (To::Operator, operator.as_slice()),
+            (To::Station(0), station.as_slice()),
+        ];
+        let (status, text) = played(alloc, records(alloc, &parts, most)?)?;
+        assert_eq!(rt; text.as_str(), FIRST_TEXT, "records of {most}");
+        assert_eq!(rt; status, 0);
     }
     Ok(())
 }

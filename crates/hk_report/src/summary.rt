@@ -55,7 +55,6 @@ fn trouble_piece(trouble: &Trouble) -> Piece<'static>
         Trouble::ReadFault => Piece::Text(b"read-fault"),
         Trouble::BadRecord(place) => Piece::Numbered(b"bad-record", *place),
         Trouble::TooLong(limit) => Piece::Numbered(b"too-long", *limit),
-        Trouble::NotBuilt(place) => Piece::Numbered(b"not-built", *place),
     }
 }
 

@@ -5,4 +5,3 @@ pub mod Make
 pub mod Words
 pub mod Outcome
 pub mod Examples
-pub mod Built

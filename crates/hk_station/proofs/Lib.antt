@@ -1,9 +1,3 @@
-pub mod Leaving
-pub mod Beginning
-pub mod Standing
+pub mod Feeding
 pub mod Hearing
-pub mod Keeping
-pub mod Meaning
-pub mod Blocking
-pub mod Stepping
 pub mod Outcomes

@@ -1,4 +1,3 @@
-pub mod Content
+pub mod Feeding
 pub mod Hearing
 pub mod Outcome
-pub mod Taken

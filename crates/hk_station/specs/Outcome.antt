@@ -1,56 +1,48 @@
 -- What the hearing of a byte comes to.
-use Rattle.std.specs.Prelude.{◌≡◌, ⊤, ℕ, Bool, true, false, List, ◌++◌, map, flat_map, Option, option_map}
+use Rattle.std.specs.Prelude.{◌≡◌, ⊤, ℕ, if◌then◌else◌, List, [], ◌++◌, ◌∷◌, map, flat_map, Option, Some, None, is_some, option_map}
+use Rattle.hk_base.specs.declared.plain.End.{End}
+use Rattle.hk_base.specs.declared.plain.End.TheVariants as ends
+use Rattle.hk_base.specs.declared.plain.Head.{Head}
 use Rattle.hk_spec_matching.specs.Catalogue.{Songs}
-use Rattle.hk_spec_streams.specs.Blocks.{Block}
+use Rattle.hk_spec_streams.specs.Pieces.{completed}
+use Rattle.hk_spec_streams.specs.Station.{station_met, fences}
+use Rattle.hk_spec_streams.specs.Blocks.{Block, blocks}
 use Rattle.hk_spec_lines.specs.Lines.{printed_text}
 use Rattle.hk_spec_runs.specs.Desk.{Rules}
-use Rattle.hk_spec_runs.specs.Replay.{Listener, heard, new_blocks, report_in}
-use Rattle.hk_block.specs.Ring.{Ring, first_word}
-use Rattle.hk_base.specs.declared.plain.Head.{Head}
+use Rattle.hk_spec_runs.specs.Replay.{Listener, new_blocks, report_in}
+use Rattle.hk_block.specs.Ring.{first_word}
 use Rattle.hk_station.specs.declared.station.Station.{Station}
-use Rattle.hk_station.specs.declared.station.Taken.{Taken}
-use Rattle.hk_station.specs.declared.station.Taken.TheVariants as takens
-use Rattle.hk_station.specs.declared.station.Heard.{Heard}
-use Rattle.hk_station.specs.declared.station.Heard.TheVariants.{Going, NotBuilt, SinkFault}
+use Rattle.hk_station.specs.declared.station.Progress.{Progress}
+use Rattle.hk_station.specs.declared.station.Progress.TheVariants.{Going, Over}
+use Rattle.hk_station.specs.Hearing.{next}
 
-abbrev pub is_refusal : Heard → Bool
-is_refusal Going = false
-is_refusal NotBuilt = true
-is_refusal SinkFault = false
+abbrev pub progress_of : Option End → Progress
+progress_of None = Going
+progress_of (Some end) = Over end
 
--- a fact where the station goes on
-abbrev pub OnGoing : Heard → Type 0 → Type 0
-OnGoing Going P = P
-OnGoing NotBuilt P = ⊤
-OnGoing SinkFault P = ⊤
+-- a fact where a write of the log failed
+abbrev pub OnTorn : Progress → Type 0 → Type 0
+OnTorn (Over ends.SinkFault) P = P
+OnTorn (Over ends.Ended) P = ⊤
+OnTorn (Over (ends.Wire fault)) P = ⊤
+OnTorn (Over (ends.FenceAhead asked found)) P = ⊤
+OnTorn (Over ends.ReadFault) P = ⊤
+OnTorn (Over ends.GateFault) P = ⊤
+OnTorn Going P = ⊤
 
--- a fact where the byte was refused
-abbrev pub OnNotBuilt : Heard → Type 0 → Type 0
-OnNotBuilt Going P = ⊤
-OnNotBuilt NotBuilt P = P
-OnNotBuilt SinkFault P = ⊤
-
--- a fact where a write failed
-abbrev pub OnSinkFault : Heard → Type 0 → Type 0
-OnSinkFault Going P = ⊤
-OnSinkFault NotBuilt P = ⊤
-OnSinkFault SinkFault P = P
-
--- a fact where the byte was heard
-abbrev pub OnHeard : Heard → Type 0 → Type 0
-OnHeard Going P = P
-OnHeard NotBuilt P = ⊤
-OnHeard SinkFault P = P
-
--- a fact where no write failed
-abbrev pub OnNoFault : Heard → Type 0 → Type 0
-OnNoFault Going P = P
-OnNoFault NotBuilt P = P
-OnNoFault SinkFault P = ⊤
+-- a fact where none did
+abbrev pub UnlessTorn : Progress → Type 0 → Type 0
+UnlessTorn (Over ends.SinkFault) P = ⊤
+UnlessTorn (Over ends.Ended) P = P
+UnlessTorn (Over (ends.Wire fault)) P = P
+UnlessTorn (Over (ends.FenceAhead asked found)) P = P
+UnlessTorn (Over ends.ReadFault) P = P
+UnlessTorn (Over ends.GateFault) P = P
+UnlessTorn Going P = P
 
 -- the blocks that a listener's next byte completes, each with its number
 abbrev pub blocks_gained : Rules → ℕ → Listener → ℕ → List (ℕ × Block)
-blocks_gained rules v l byte = new_blocks rules l (heard rules v l byte)
+blocks_gained rules v l byte = new_blocks rules l (next rules v l byte)
 
 -- their report lines, at a version with these songs
 abbrev pub lines_gained : Rules → ℕ → ℕ → Songs → Listener → ℕ → List ℕ
@@ -60,35 +52,18 @@ lines_gained rules station v songs l byte = flat_map printed_text (map (report_i
 abbrev pub Looked : List ℕ → Option (List ℕ) → Option (List ℕ) → Type 0
 Looked versions old new = new ≡ option_map (λ before. before ++ versions) old
 
--- the version of a look for each block
+-- the version of a look for each block and each fence that the next byte completes
 abbrev pub looks_gained : Rules → ℕ → Listener → ℕ → List ℕ
-looks_gained rules v l byte = map (λ block. v) (blocks_gained rules v l byte)
+looks_gained rules v l byte =
+    let used = l.used ++ byte ∷ [] in
+    if is_some l.end then [] else if is_some (station_met rules.bytes used) then []
+    else map (λ block. v) (completed (blocks rules.setting) used) ++ map (λ fence. v) (completed fences used)
 
--- what a station's wire and ring make of a byte, without a look
-abbrev pub is_refused : Taken → Bool
-is_refused takens.Nothing = false
-is_refused takens.Block = false
-is_refused takens.Refused = true
+-- a fact where looks were made
+abbrev pub IfLooked : List ℕ → Type 0 → Type 0
+IfLooked [] P = ⊤
+IfLooked (v ∷ looks) P = P
 
-abbrev pub OnNothing : Taken → Type 0 → Type 0
-OnNothing takens.Nothing P = P
-OnNothing takens.Block P = ⊤
-OnNothing takens.Refused P = ⊤
-
-abbrev pub OnBlock : Taken → Type 0 → Type 0
-OnBlock takens.Nothing P = ⊤
-OnBlock takens.Block P = P
-OnBlock takens.Refused P = ⊤
-
-abbrev pub IfTaken : Taken → Type 0 → Type 0
-IfTaken takens.Nothing P = P
-IfTaken takens.Block P = P
-IfTaken takens.Refused P = ⊤
-
--- the block that the ring's last print completes
-abbrev pub block_at : Ring → Block
-block_at ring = record { segment = 0; first = first_word ring; prints = ring.last }
-
--- what the line of that block says before its list
+-- what the line of the ring's block says before its list
 abbrev pub head_at : Station → ℕ → Head
-head_at station v = record { station = station.number; block = station.blocks; segment = 0; first = first_word station.ring; version = v }
+head_at station v = record { station = station.number; block = station.lines; segment = station.receiver.segment; first = first_word station.receiver.ring; version = v }

@@ -1,111 +1,80 @@
-// A station: its wire, its ring, and its count of blocks.
-ghost use Rattle.std.specs.Prelude.{◌≡◌, ◌≤◌, ◌<◌, ◌+◌, ◌++◌, [], ◌∷◌, ℕ, Some, IfOk, IsTrue, length, not, false};
+// A station: its receiver, its count of lines, the version of its last look, and its end.
+ghost use Rattle.std.specs.Prelude.{◌≡◌, ◌≤◌, ◌<◌, ◌+◌, [], ◌∷◌, ◌++◌, ℕ, List, Some, None, IfOk, IsTrue, length, nat_lt, if◌then◌else◌};
 ghost use Rattle.hk_base.specs.Devices.{Rose, Wrote};
-ghost use Rattle.hk_spec_streams.specs.Grammar.{ends_at_start};
-ghost use Rattle.hk_spec_streams.specs.Station.{station_grammar};
+ghost use Rattle.hk_base.specs.declared.plain.End.{End};
+ghost use Rattle.hk_base.specs.declared.plain.End.TheVariants as ends;
 ghost use Rattle.hk_spec_streams.specs.Blocks.{blocks};
 ghost use Rattle.hk_spec_lines.specs.Lines.{line};
 ghost use Rattle.hk_spec_runs.specs.Desk.{Rules};
-ghost use Rattle.hk_spec_runs.specs.Replay.{Listener, heard};
-ghost use Rattle.hk_spec_runs.specs.Built.{leaves_station, leaves_form, built_station};
-ghost use Rattle.hk_station_wire.specs.Taken.{limit_of};
-ghost use Rattle.hk_block.specs.Ring.{MOST_PRINTS, is_full};
+ghost use Rattle.hk_spec_runs.specs.Replay.{Listener, end_of};
+ghost use Rattle.hk_block.specs.Ring.{is_full};
 ghost use Rattle.hk_block.specs.Looker.{KeepsPast, matches_in};
+ghost use Rattle.hk_receiver.specs.Kept.{MOST_BYTES, IsSetTo};
+ghost use Rattle.hk_receiver.specs.Received.{blocks_of, ring_of};
 ghost use Rattle.hk_report.specs.Fronts.{WroteFront};
-ghost use Rattle.hk_station.specs.Taken.{MOST_BYTES, IsInStep};
-ghost use Rattle.hk_station.specs.Content.{content_of};
 
-use hk_base::{Head, NoMemory, Print, Sink, Steps};
-use hk_block::{BlockRing, Looker, Scratch};
+use hk_base::{End, Head, NoMemory, Sink, Steps};
+use hk_block::{Looker, Scratch};
+use hk_receiver::{Received, Receiver};
 use hk_report::write_line;
-use hk_station_wire::{Item, Wire};
 use std::alloc::Global;
 use std::sync::ledger::Ledger;
 
-const HELLO_SIZE: u64 = 6;
-
-const HELLO: [u8; 6] = [b'H', b'K', b'S', b'1', 0, 1];
-
-const DATA: u8 = 1;
-
-/// What came of a byte: the station goes on, or the byte leaves the form that is built, or a write of its line failed.
+/// What came of a station's bytes: it goes on, or it is over.
 #[derive(Clone, Copy, Debug, PartialEq, Eq)]
-pub enum Heard {
+pub enum Progress {
     Going,
-    NotBuilt,
-    SinkFault,
+    Over(End),
 }
 
-// What an item of the wire is in the form that is built.
-#[derive(Clone, Copy)]
-enum Content {
-    Nothing,
-    Print(Print),
-    Other,
-}
-
-fn read_item(item: Item) -> Content
-    ensures { result ≡ content_of item }
-{
-    match item {
-        Item::Nothing | Item::Hello(_) => Content::Nothing,
-        Item::Print(print) if print.mask == 0 => Content::Print(print),
-        _ => Content::Other,
-    }
-}
-
-// What the wire and the ring make of a byte.
-#[derive(Clone, Copy)]
-enum Taken {
-    Nothing,
-    Block,
-    Refused,
-}
-
-/// A station as far as it was heard. It keeps its place in the stream, the last prints of the segment, how many blocks
-/// were reported and the version of the last look.
+/// A station as far as it was heard. It keeps what its stream has open, how many lines were written whole, the version of
+/// the last look, and the end once it is over.
 #[derive(Drop)]
 pub struct Station {
     number: u8,
-    wire: Wire,
-    ring: BlockRing,
-    blocks: u64,
+    receiver: Receiver,
+    lines: u64,
     version: u32,
-    ghost limit: { limit_of wire ≤ MOST_BYTES },
-    ghost in_step: { ∥ IsInStep wire ring ∥₁ },
-    ghost most: { ring.count ≤ MOST_PRINTS },
-    ghost counted: { blocks ≤ ring.count },
+    end: Option<End>,
+    ghost counted: { lines ≤ blocks_of receiver },
 }
 
 impl Station {
-    ghost use Rattle.hk_station.specs.Hearing.{IsHearing, ForEach, ForEachText, unheard, number_of, blocks_of, version_of};
-    ghost use Rattle.hk_station.specs.Taken.{HasTaken};
-    ghost use Rattle.hk_station.specs.Outcome.{OnGoing, OnNotBuilt, OnSinkFault, OnHeard, OnNoFault, is_refusal, blocks_gained, lines_gained, looks_gained, Looked, is_refused, OnNothing, OnBlock, IfTaken, block_at, head_at};
+    ghost use Rattle.hk_station.specs.Hearing.{IsHearing, ForEach, unheard, next, number_of, lines_of, version_of, kept_end};
+    ghost use Rattle.hk_station.specs.Outcome.{progress_of, OnTorn, UnlessTorn, blocks_gained, lines_gained, looks_gained, Looked, IfLooked, head_at};
+    ghost use Rattle.hk_station.specs.Feeding.{Instant, bytes_in, RiseIn, HasHeard, WasTorn, looks_over};
 
-    /// Station `number`, before its first byte. Its blocks begin `hop` prints apart, and its stream has at most `limit`
-    /// bytes. It takes all memory that it needs.
-    pub fn new(alloc: Global, number: u8, hop: u32, limit: u64) -> Result<Station, NoMemory>
+    /// Station `number`, before its first byte. `flips` bits of a print of sound are weak, blocks begin `hop` prints apart,
+    /// and the stream has at most `limit` bytes. It takes all memory that it needs.
+    pub fn new(
+        alloc: Global,
+        number: u8,
+        flips: u32,
+        hop: u32,
+        limit: u64,
+    ) -> Result<Station, NoMemory>
+        requires flips { flips ≤ 10 }
         requires some { 1 ≤ hop }
         requires most { hop ≤ 256 }
         requires limit { limit ≤ MOST_BYTES }
-        ensures unheard { IfOk result (λ station. (rules : Rules) → rules.setting.block_size ≡ 256 → rules.setting.hop ≡ hop
-            → rules.bytes ≡ limit → IsHearing rules station unheard) }
+        ensures unheard { IfOk result (λ station. (rules : Rules) → IsSetTo rules flips hop limit → IsHearing rules station unheard) }
         ensures number { IfOk result (λ station. number_of station ≡ number) }
     {
-        match BlockRing::new(alloc, hop) {
-            Ok(ring) => Ok(Station {
+        match Receiver::new(alloc, flips, hop, limit) {
+            Ok(receiver) => Ok(Station {
                 number,
-                wire: Wire::new(limit),
-                ring,
-                blocks: 0,
+                receiver,
+                lines: 0,
                 version: 0,
+                end: None,
             }),
             Err(failed) => Err(failed),
         }
     }
 
-    /// Hears the stream's next byte. Where it completes a block, that is looked up in the view, and its line is written
-    /// to the log. After `NotBuilt` and after `SinkFault`, which leaves a proper front of the line, the station is over.
+    /// Hears the stream's next byte. Where it completes a block, that is looked up in the view, and its line is written to
+    /// the log; a failed write leaves a proper front of the line. Where it completes a fence, the view is asked for its
+    /// version. Once the station is over, it answers its end and changes nothing.
     pub fn hear<V: Looker, K: Sink, L: Ledger>(
         &mut self,
         byte: u8,
@@ -113,30 +82,31 @@ impl Station {
         scratch: &mut Scratch,
         log: &mut K,
         steps: &mut Steps<L>,
-    ) -> Heard
+    ) -> Progress
         requires room { V.room view.old ≤ scratch.old.room }
 
-        ensures refuses { ForEach self.old (λ rules l. is_refusal result ≡ leaves_station (l.used ++ byte ∷ [])) }
-        ensures hears { OnGoing result (ForEach self.old (λ rules l. IsHearing rules self.new (heard rules (V.at view.new) l byte))) }
-        ensures whole { OnGoing result (ForEach self.old (λ rules l.
+        ensures hears { UnlessTorn result (ForEach self.old (λ rules l. IsHearing rules self.new (next rules (V.at view.new) l byte))) }
+        ensures tells { result ≡ progress_of (kept_end self.new) }
+        ensures whole { UnlessTorn result (ForEach self.old (λ rules l.
             Wrote (lines_gained rules (number_of self.old) (V.at view.new) (V.songs view.new) l byte) (K.written log.old) (K.written log.new))) }
-        ensures torn { OnSinkFault result (ForEach self.old (λ rules l.
+        ensures torn { kept_end self.old ≡ None → OnTorn result (ForEach self.old (λ rules l.
             WroteFront (lines_gained rules (number_of self.old) (V.at view.new) (V.songs view.new) l byte) (K.written log.old) (K.written log.new))) }
-        ensures unwritten { OnNotBuilt result (K.written log.new ≡ K.written log.old) }
+        ensures torn_lines { kept_end self.old ≡ None → OnTorn result (lines_of self.new ≡ lines_of self.old) }
+        ensures torn_version { kept_end self.old ≡ None → OnTorn result (version_of self.new ≡ V.at view.new) }
 
+        ensures over { (end : End) → kept_end self.old ≡ Some end → result ≡ Progress.Over end }
+        ensures over_station { (end : End) → kept_end self.old ≡ Some end → self.new ≡ self.old }
+        ensures over_log { (end : End) → kept_end self.old ≡ Some end → log.new ≡ log.old }
+        ensures over_view { (end : End) → kept_end self.old ≡ Some end → view.new ≡ view.old }
         ensures number_stays { number_of self.new ≡ number_of self.old }
-        ensures refused_blocks { OnNotBuilt result (blocks_of self.new ≡ blocks_of self.old) }
-        ensures refused_version { OnNotBuilt result (version_of self.new ≡ version_of self.old) }
-        ensures torn_blocks { OnSinkFault result (blocks_of self.new ≡ blocks_of self.old) }
-        ensures torn_version { OnSinkFault result (version_of self.new ≡ V.at view.new) }
 
-        ensures cause { OnSinkFault result (Rose (K.faults log.old) (K.faults log.new)) }
+        ensures cause { kept_end self.old ≡ None → OnTorn result (Rose (K.faults log.old) (K.faults log.new)) }
         ensures never_falls { K.faults log.old ≤ K.faults log.new }
-        ensures counts_failures { OnNoFault result (K.faults log.new ≡ K.faults log.old) }
+        ensures counts_failures { UnlessTorn result (K.faults log.new ≡ K.faults log.old) }
 
-        ensures refused_view { OnNotBuilt result (view.new ≡ view.old) }
-        ensures unlooked { OnGoing result (ForEach self.old (λ rules l. blocks_gained rules (V.at view.new) l byte ≡ [] → view.new ≡ view.old)) }
-        ensures shows { OnHeard result (ForEach self.old (λ rules l. Looked (looks_gained rules (V.at view.new) l byte) (V.shown view.old) (V.shown view.new))) }
+        ensures unlooked { UnlessTorn result (ForEach self.old (λ rules l. looks_gained rules (V.at view.new) l byte ≡ [] → view.new ≡ view.old)) }
+        ensures shows { kept_end self.old ≡ None → ForEach self.old (λ rules l. Looked (looks_gained rules (V.at view.new) l byte) (V.shown view.old) (V.shown view.new)) }
+        ensures known_look { ForEach self.old (λ rules l. IfLooked (looks_gained rules (V.at view.new) l byte) (V.past view.new (V.at view.new) ≡ Some (V.songs view.new))) }
         ensures never_back { V.at view.old ≤ V.at view.new }
         ensures known { V.past view.old (V.at view.old) ≡ Some (V.songs view.old) → V.past view.new (V.at view.new) ≡ Some (V.songs view.new) }
         ensures past_stays { KeepsPast (V.past view.old) (V.past view.new) }
@@ -148,51 +118,106 @@ impl Station {
         ensures still_shelf { IsTrue (V.still view.old) → V.shelf view.new ≡ V.shelf view.old }
         ensures scratch_room { scratch.new.room ≡ scratch.old.room }
     {
-        match self.take(byte) {
-            Taken::Nothing => Heard::Going,
-            Taken::Block => self.report(view, scratch, log, steps),
-            Taken::Refused => Heard::NotBuilt,
+        if let Some(end) = self.end {
+            return Progress::Over(end);
+        }
+        match self.receiver.push(byte) {
+            Received::Nothing => Progress::Going,
+            Received::Block => self.report(view, scratch, log, steps),
+            Received::Fence(asked) => self.meet(asked, view),
+            Received::Fault(fault) => self.close(End::Wire(fault)),
         }
     }
 
-    // Takes the stream's next byte, and the print that it completes, if it completes one.
-    fn take(&mut self, byte: u8) -> Taken
-        ensures refuses { ForEachText self.old (λ rules text. is_refused result ≡ leaves_station (text ++ byte ∷ [])) }
-        ensures takes { IfTaken result (ForEachText self.old (λ rules text. HasTaken rules self.new.wire self.new.ring (text ++ byte ∷ []))) }
-        ensures nothing { OnNothing result (ForEachText self.old (λ rules text. blocks rules.setting (text ++ byte ∷ []) ≡ blocks rules.setting text)) }
-        ensures block { OnBlock result (ForEachText self.old (λ rules text. blocks rules.setting (text ++ byte ∷ []) ≡ blocks rules.setting text ++ block_at self.new.ring ∷ [])) }
-        ensures full { OnBlock result (IsTrue (is_full self.new.ring)) }
-        ensures uncounted { OnBlock result (self.new.blocks < self.new.ring.count) }
+    /// Hears a piece of the stream, byte after byte, up to the one that ends the station; the rest of the piece is left. A
+    /// failed write leaves the lines before whole, and then a proper front of its line. Once the station is over, it answers
+    /// its end and changes nothing.
+    pub fn feed<V: Looker, K: Sink, L: Ledger>(
+        &mut self,
+        piece: &[u8],
+        view: &mut V,
+        scratch: &mut Scratch,
+        log: &mut K,
+        steps: &mut Steps<L>,
+    ) -> Progress
+        requires room { V.room view.old ≤ scratch.old.room }
+        ensures whole { UnlessTorn result ((instants : List Instant) × (bytes_in instants ≡ piece.now) × RiseIn (V.at view.old) instants (V.at view.new)
+            × ForEach self.old (λ rules l. HasHeard rules l instants self.old self.new (K.written log.old) (K.written log.new) (V.shown view.old) (V.shown view.new) (V.past view.new)
+            × (looks_over rules l instants ≡ [] → view.new ≡ view.old))) }
+        ensures torn { kept_end self.old ≡ None → OnTorn result ((instants : List Instant) × (torn : Instant) × (left : List ℕ)
+            × (bytes_in instants ++ torn.byte ∷ left ≡ piece.now) × RiseIn (V.at view.old) (instants ++ torn ∷ []) (V.at view.new)
+            × ForEach self.old (λ rules l. WasTorn rules l instants torn self.old self.new (K.written log.old) (K.written log.new) (V.shown view.old) (V.shown view.new) (V.past view.new))) }
+        ensures tells { result ≡ progress_of (kept_end self.new) }
+        ensures over { (end : End) → kept_end self.old ≡ Some end → result ≡ Progress.Over end }
+        ensures over_station { (end : End) → kept_end self.old ≡ Some end → self.new ≡ self.old }
+        ensures over_log { (end : End) → kept_end self.old ≡ Some end → log.new ≡ log.old }
+        ensures over_view { (end : End) → kept_end self.old ≡ Some end → view.new ≡ view.old }
+        ensures number_stays { number_of self.new ≡ number_of self.old }
+        ensures cause { kept_end self.old ≡ None → OnTorn result (Rose (K.faults log.old) (K.faults log.new)) }
+        ensures never_falls { K.faults log.old ≤ K.faults log.new }
+        ensures counts_failures { UnlessTorn result (K.faults log.new ≡ K.faults log.old) }
+        ensures never_back { V.at view.old ≤ V.at view.new }
+        ensures known { V.past view.old (V.at view.old) ≡ Some (V.songs view.old) → V.past view.new (V.at view.new) ≡ Some (V.songs view.new) }
+        ensures past_stays { KeepsPast (V.past view.old) (V.past view.new) }
+        ensures room_stays { V.room view.new ≡ V.room view.old }
+        ensures home_stays { V.home view.new ≡ V.home view.old }
+        ensures still_stays { V.still view.new ≡ V.still view.old }
+        ensures still_version { IsTrue (V.still view.old) → V.at view.new ≡ V.at view.old }
+        ensures still_songs { IsTrue (V.still view.old) → V.songs view.new ≡ V.songs view.old }
+        ensures still_shelf { IsTrue (V.still view.old) → V.shelf view.new ≡ V.shelf view.old }
+        ensures scratch_room { scratch.new.room ≡ scratch.old.room }
+    {
+        if let Some(kept) = self.end {
+            return Progress::Over(kept);
+        }
+        for byte in piece {
+            match self.hear(*byte, view, scratch, log, steps) {
+                Progress::Going => {}
+                Progress::Over(end) => return Progress::Over(end),
+            }
+        }
+        Progress::Going
+    }
+
+    // Ends the station.
+    fn close(&mut self, end: End) -> Progress
+        ensures over { result ≡ Progress.Over end }
+        ensures kept { kept_end self.new ≡ Some end }
+        ensures receiver_stays { self.new.receiver ≡ self.old.receiver }
         ensures number_stays { self.new.number ≡ self.old.number }
-        ensures blocks_stay { self.new.blocks ≡ self.old.blocks }
+        ensures lines_stay { self.new.lines ≡ self.old.lines }
         ensures version_stays { self.new.version ≡ self.old.version }
     {
-        if !self.allows(byte) {
-            return Taken::Refused;
-        }
-        match read_item(self.wire.push(byte)) {
-            Content::Nothing => Taken::Nothing,
-            Content::Print(print) => {
-                if self.ring.push(print) {
-                    Taken::Block
-                } else {
-                    Taken::Nothing
-                }
-            }
-            Content::Other => Taken::Refused,
-        }
+        self.end = Some(end);
+        Progress::Over(end)
     }
 
-    // Whether the byte may stand next in the hello, or begins a packet of data, or goes on with one. It changes nothing.
-    fn allows(&mut self, byte: u8) -> bool
-        ensures allowed { ForEachText self.old (λ rules text. result ≡ not (leaves_form built_station (text ++ byte ∷ []))) }
-        ensures changes_nothing { self.new ≡ self.old }
+    // Asks the view for its version, which may not be below the one that a fence asks for.
+    fn meet<V: Looker>(&mut self, asked: u32, view: &mut V) -> Progress
+        requires going { kept_end self.old ≡ None }
+        ensures tells { result ≡ progress_of (kept_end self.new) }
+        ensures met { kept_end self.new ≡ (if nat_lt (V.at view.new) asked then Some (ends.FenceAhead asked (V.at view.new)) else None) }
+        ensures version { self.new.version ≡ V.at view.new }
+        ensures receiver_stays { self.new.receiver ≡ self.old.receiver }
+        ensures number_stays { self.new.number ≡ self.old.number }
+        ensures lines_stay { self.new.lines ≡ self.old.lines }
+        ensures shows { Looked (V.at view.new ∷ []) (V.shown view.old) (V.shown view.new) }
+        ensures never_back { V.at view.old ≤ V.at view.new }
+        ensures known { V.past view.new (V.at view.new) ≡ Some (V.songs view.new) }
+        ensures past_stays { KeepsPast (V.past view.old) (V.past view.new) }
+        ensures room_stays { V.room view.new ≡ V.room view.old }
+        ensures home_stays { V.home view.new ≡ V.home view.old }
+        ensures still_stays { V.still view.new ≡ V.still view.old }
+        ensures still_version { IsTrue (V.still view.old) → V.at view.new ≡ V.at view.old }
+        ensures still_songs { IsTrue (V.still view.old) → V.songs view.new ≡ V.songs view.old }
+        ensures still_shelf { IsTrue (V.still view.old) → V.shelf view.new ≡ V.shelf view.old }
     {
-        let taken = self.wire.taken();
-        if taken < HELLO_SIZE {
-            return byte == HELLO[taken as usize];
+        let found = view.now();
+        self.version = found;
+        if found < asked {
+            return self.close(End::FenceAhead(asked, found));
         }
-        self.wire.finish().is_err() || byte == DATA
+        Progress::Going
     }
 
     // Looks up the block that the last print completed, and writes its line.
@@ -202,22 +227,24 @@ impl Station {
         scratch: &mut Scratch,
         log: &mut K,
         steps: &mut Steps<L>,
-    ) -> Heard
+    ) -> Progress
+        requires going { kept_end self.old ≡ None }
         requires room { V.room view.old ≤ scratch.old.room }
-        requires full { IsTrue (is_full self.old.ring) }
-        requires uncounted { self.old.blocks < self.old.ring.count }
-        ensures whole { OnGoing result (Wrote (line (head_at self.old (V.at view.new)) (matches_in self.old.ring (V.songs view.new))) (K.written log.old) (K.written log.new)) }
-        ensures torn { OnSinkFault result (WroteFront (line (head_at self.old (V.at view.new)) (matches_in self.old.ring (V.songs view.new))) (K.written log.old) (K.written log.new)) }
-        ensures never_refuses { is_refusal result ≡ false }
-        ensures wire_stays { self.new.wire ≡ self.old.wire }
-        ensures ring_stays { self.new.ring ≡ self.old.ring }
+        requires full { IsTrue (is_full (ring_of self.old.receiver)) }
+        requires uncounted { self.old.lines < blocks_of self.old.receiver }
+        requires few { blocks_of self.old.receiver ≤ MOST_BYTES }
+        ensures tells { result ≡ progress_of (kept_end self.new) }
+        ensures goes_on { UnlessTorn result (kept_end self.new ≡ None) }
+        ensures whole { UnlessTorn result (Wrote (line (head_at self.old (V.at view.new)) (matches_in (ring_of self.old.receiver) (V.songs view.new))) (K.written log.old) (K.written log.new)) }
+        ensures torn { OnTorn result (WroteFront (line (head_at self.old (V.at view.new)) (matches_in (ring_of self.old.receiver) (V.songs view.new))) (K.written log.old) (K.written log.new)) }
+        ensures receiver_stays { self.new.receiver ≡ self.old.receiver }
         ensures number_stays { self.new.number ≡ self.old.number }
-        ensures counts { OnGoing result (self.new.blocks ≡ self.old.blocks + 1) }
-        ensures torn_blocks { OnSinkFault result (self.new.blocks ≡ self.old.blocks) }
+        ensures counts { UnlessTorn result (self.new.lines ≡ self.old.lines + 1) }
+        ensures torn_lines { OnTorn result (self.new.lines ≡ self.old.lines) }
         ensures version { self.new.version ≡ V.at view.new }
-        ensures cause { OnSinkFault result (Rose (K.faults log.old) (K.faults log.new)) }
+        ensures cause { OnTorn result (Rose (K.faults log.old) (K.faults log.new)) }
         ensures never_falls { K.faults log.old ≤ K.faults log.new }
-        ensures counts_failures { OnNoFault result (K.faults log.new ≡ K.faults log.old) }
+        ensures counts_failures { UnlessTorn result (K.faults log.new ≡ K.faults log.old) }
         ensures shows { Looked (V.at view.new ∷ []) (V.shown view.old) (V.shown view.new) }
         ensures never_back { V.at view.old ≤ V.at view.new }
         ensures known { V.past view.new (V.at view.new) ≡ Some (V.songs view.new) }
@@ -230,30 +257,89 @@ impl Station {
         ensures still_shelf { IsTrue (V.still view.old) → V.shelf view.new ≡ V.shelf view.old }
         ensures scratch_room { scratch.new.room ≡ scratch.old.room }
     {
-        let version = view.look(&self.ring, scratch, steps);
+        let version = view.look(self.receiver.ring(), scratch, steps);
         self.version = version;
         let head = Head {
             station: self.number,
-            block: self.blocks,
-            segment: 0,
-            first: self.ring.first_word(),
+            block: self.lines,
+            segment: self.receiver.segment(),
+            first: self.receiver.ring().first_word(),
             version,
         };
         match write_line(log, &head, scratch.matches()) {
             Ok(()) => {
-                self.blocks += 1;
-                Heard::Going
+                self.lines += 1;
+                Progress::Going
             }
-            Err(_) => Heard::SinkFault,
+            Err(_) => self.close(End::SinkFault),
         }
     }
 
-    /// Whether the stream may end here: behind the hello, where a packet may begin. It changes nothing.
-    pub fn may_end(&mut self) -> bool
-        ensures end { (rules : Rules) (l : Listener) → IsHearing rules self.old l → result ≡ ends_at_start station_grammar l.used }
-        ensures changes_nothing { self.new ≡ self.old }
+    /// Ends the station where its stream has ended: the end is the one kept, or Ended where the stream may end here, or Cut.
+    pub fn finish(&mut self) -> End
+        ensures end { ForEach self.old (λ rules l. result ≡ end_of rules l) }
+        ensures kept { kept_end self.new ≡ Some result }
+        ensures over { (end : End) → kept_end self.old ≡ Some end → result ≡ end }
+        ensures number_stays { number_of self.new ≡ number_of self.old }
+        ensures lines_stay { lines_of self.new ≡ lines_of self.old }
+        ensures version_stays { version_of self.new ≡ version_of self.old }
     {
-        self.wire.finish().is_ok()
+        if let Some(end) = self.end {
+            return end;
+        }
+        let end = match self.receiver.finish() {
+            Ok(()) => End::Ended,
+            Err(fault) => End::Wire(fault),
+        };
+        self.end = Some(end);
+        end
+    }
+
+    /// Ends the station where its stream can't be read on; one that is over stays. Answers its end.
+    pub fn stop_read(&mut self) -> End
+        ensures going { kept_end self.old ≡ None → result ≡ ends.ReadFault }
+        ensures over { (end : End) → kept_end self.old ≡ Some end → result ≡ end }
+        ensures kept { kept_end self.new ≡ Some result }
+        ensures number_stays { number_of self.new ≡ number_of self.old }
+        ensures lines_stay { lines_of self.new ≡ lines_of self.old }
+        ensures version_stays { version_of self.new ≡ version_of self.old }
+    {
+        self.stop(End::ReadFault)
+    }
+
+    /// Ends the station where its gate failed; one that is over stays. Answers its end.
+    pub fn stop_gate(&mut self) -> End
+        ensures going { kept_end self.old ≡ None → result ≡ ends.GateFault }
+        ensures over { (end : End) → kept_end self.old ≡ Some end → result ≡ end }
+        ensures kept { kept_end self.new ≡ Some result }
+        ensures number_stays { number_of self.new ≡ number_of self.old }
+        ensures lines_stay { lines_of self.new ≡ lines_of self.old }
+        ensures version_stays { version_of self.new ≡ version_of self.old }
+    {
+        self.stop(End::GateFault)
+    }
+
+    // Ends a station that goes on.
+    fn stop(&mut self, end: End) -> End
+        ensures going { kept_end self.old ≡ None → result ≡ end }
+        ensures over { (kept : End) → kept_end self.old ≡ Some kept → result ≡ kept }
+        ensures kept { kept_end self.new ≡ Some result }
+        ensures number_stays { number_of self.new ≡ number_of self.old }
+        ensures lines_stay { lines_of self.new ≡ lines_of self.old }
+        ensures version_stays { version_of self.new ≡ version_of self.old }
+    {
+        if let Some(kept) = self.end {
+            return kept;
+        }
+        self.end = Some(end);
+        end
+    }
+
+    /// The end, and None while the station isn't over.
+    pub fn end(&self) -> Option<End>
+        ensures { result ≡ kept_end self.now }
+    {
+        self.end
     }
 
     /// The station's number.
@@ -263,18 +349,18 @@ impl Station {
         self.number
     }
 
-    /// How many blocks were reported.
+    /// How many blocks have their whole line in the log.
     pub fn blocks(&self) -> u64
-        ensures blocks { result ≡ blocks_of self.now }
-        ensures all { (rules : Rules) (l : Listener) → IsHearing rules self.now l → result ≡ length (blocks rules.setting l.used) }
+        ensures lines { result ≡ lines_of self.now }
+        ensures all { ForEach self.now (λ rules l. result ≡ length (blocks rules.setting l.used)) }
     {
-        self.blocks
+        self.lines
     }
 
-    /// The version of the last look, and 0 before the first.
+    /// The version of the last look for a block or a fence, and 0 before the first.
     pub fn version(&self) -> u32
         ensures version { result ≡ version_of self.now }
-        ensures last { (rules : Rules) (l : Listener) → IsHearing rules self.now l → result ≡ l.version }
+        ensures last { ForEach self.now (λ rules l. result ≡ l.version) }
     {
         self.version
     }

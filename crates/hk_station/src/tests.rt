@@ -1,24 +1,33 @@
-// Small cases by hand: streams of prints of the word 0, against no songs.
+// Small streams by hand, against no songs. The expected lines are those of the worked examples.
 ghost use Rattle.std.specs.Prelude.{◌≡◌, ◌<◌, [], Some, None, true};
 
-use crate::{Heard, Looker, NoMemory, Scratch, Station, Steps};
-use hk_base::MemorySink;
+use crate::{End, Looker, NoMemory, Progress, Scratch, Station, Steps};
+use hk_base::{MemorySink, Print, WireFault};
 use hk_block::BlockRing;
 use std::alloc::Global;
 use std::marker::Brand;
 use std::sync::ledger::{Blank, Ledger};
+use std::test::Fail;
 
-const HELLO: &[u8] = b"HKS1\x00\x01";
+// The hellos of a stream of prints, and of one of sound.
+const PRINTS: &[u8] = b"HKS1\x00\x01";
 
-// The head of a packet of 256 prints.
-const HEAD: &[u8] = b"\x01\x08\x00";
+const SOUND: &[u8] = b"HKS1\x01\x01";
 
-const PRINTS: &[u8] = &[0; 2048];
+// 255 prints and 256 prints of the word 0, each in a packet.
+const FEWER: &[&[u8]] = &[b"\x01\x07\xf8", &[0; 2040]];
 
-// No songs, at a version that stays.
+const BLOCK: &[&[u8]] = &[b"\x01\x08\x00", &[0; 2048]];
+
+const GAP: &[u8] = b"\x03\x00\x00";
+
+const FENCE_OF_1: &[u8] = b"\x02\x00\x04\x00\x00\x00\x01";
+
+// No songs, at a version that stays. It keeps the last block that was looked up.
 #[derive(Drop)]
 struct NoSongs {
     version: u32,
+    block: [Print; 256],
 }
 
 impl Looker for NoSongs {
@@ -46,6 +55,7 @@ impl Looker for NoSongs {
         steps: &mut Steps<L>,
     ) -> u32 {
         scratch.clear();
+        self.block = ring.prints();
         self.version
     }
 
@@ -54,19 +64,21 @@ impl Looker for NoSongs {
     }
 }
 
-// A station and its log after some bytes, and what came of the last one.
+// A station, its view and its log after some pieces, and what came of the last one.
 #[derive(Drop)]
 struct Run {
     station: Station,
+    view: NoSongs,
     log: MemorySink,
-    came: Heard,
+    came: Progress,
 }
 
-// Station 3 hears these bytes, up to the first that it doesn't go on after. Its log has room for so many bytes.
-fn hear_stream_in<L: Ledger>(
+// Station 3 is fed these pieces, with the catalogue at this version. Its log has room for so many bytes.
+fn fed_in<L: Ledger>(
     alloc: Global,
-    pieces: &[&[u8]],
+    version: u32,
     room: u32,
+    pieces: &[&[u8]],
     blank: Blank,
 ) -> Result<Run, NoMemory>
     requires name { blank.name ≡ L.name }
@@ -74,33 +86,34 @@ fn hear_stream_in<L: Ledger>(
     requires some { 0 < L.parts }
 {
     let mut steps: Steps<L> = Steps::new(blank);
-    let mut view = NoSongs { version: 7 };
+    let mut view = NoSongs {
+        version,
+        block: [Print { word: 1, mask: 0 }; 256],
+    };
     let mut scratch = Scratch::new(alloc, 0)?;
     let mut log = MemorySink::new(alloc, room, Vec::new(alloc))?;
-    let mut station = Station::new(alloc, 3, 1, 10000)?;
-    let mut came = Heard::Going;
+    let mut station = Station::new(alloc, 3, 4, 64, 50000)?;
+    let mut came = Progress::Going;
     for piece in pieces {
-        for byte in *piece {
-            came = station.hear(*byte, &mut view, &mut scratch, &mut log, &mut steps);
-            if came != Heard::Going {
-                return Ok(Run { station, log, came });
-            }
-        }
+        came = station.feed(*piece, &mut view, &mut scratch, &mut log, &mut steps);
     }
-    Ok(Run { station, log, came })
+    Ok(Run {
+        station,
+        view,
+        log,
+        came,
+    })
 }
 
 // The same, with a ledger of steps that no one reads.
-fn hear_stream(alloc: Global, pieces: &[&[u8]], room: u32) -> Result<Run, NoMemory> {
-    hear_stream_in::<Brand>(alloc, pieces, room, Blank::new(1))
+fn fed(alloc: Global, version: u32, room: u32, pieces: &[&[u8]]) -> Result<Run, NoMemory> {
+    fed_in::<Brand>(alloc, version, room, pieces, Blank::new(1))
 }
 
 #[test]
-fn block_is_reported(rt: HostRuntime) {
-    let Ok(mut run) = hear_stream(rt.alloc(), &[HELLO, HEAD, PRINTS], 100) else {
-        panic!(rt; "no memory");
-    };
-    assert_eq!(rt; run.came, Heard::Going);
+fn block_is_reported(rt: HostRuntime) -> Result<(), Fail> {
+    let mut run = fed(rt.alloc(), 7, 100, &[PRINTS, BLOCK[0], BLOCK[1]])?;
+    assert_eq!(rt; run.came, Progress::Going);
     assert_eq!(rt;
         run.log.written(),
         b"S 3 B 0 G 0 W 0 V 7: none\n".as_slice()
@@ -108,28 +121,95 @@ fn block_is_reported(rt: HostRuntime) {
     assert_eq!(rt; run.station.number(), 3);
     assert_eq!(rt; run.station.blocks(), 1);
     assert_eq!(rt; run.station.version(), 7);
-    assert!(rt; run.station.may_end());
+    assert_eq!(rt; run.station.end(), None);
+    assert_eq!(rt; run.station.finish(), End::Ended);
+    assert_eq!(rt; run.station.stop_read(), End::Ended);
+    Ok(())
 }
 
 #[test]
-fn line_is_torn(rt: HostRuntime) {
-    let Ok(run) = hear_stream(rt.alloc(), &[HELLO, HEAD, PRINTS], 8) else {
-        panic!(rt; "no memory");
-    };
-    assert_eq!(rt; run.came, Heard::SinkFault);
+fn line_is_torn(rt: HostRuntime) -> Result<(), Fail> {
+    let run = fed(
+        rt.alloc(),
+        7,
+        8,
+        &[PRINTS, BLOCK[0], BLOCK[1], BLOCK[0], BLOCK[1]],
+    )?;
+    assert_eq!(rt; run.came, Progress::Over(End::SinkFault));
     assert_eq!(rt; run.log.written(), b"S 3 B 0 ".as_slice());
     assert_eq!(rt; run.station.blocks(), 0);
     assert_eq!(rt; run.station.version(), 7);
+    Ok(())
 }
 
-// The mask of the first print is 1.
 #[test]
-fn mask_is_not_built(rt: HostRuntime) {
-    let print = b"\x00\x00\x00\x00\x00\x00\x00\x01";
-    let Ok(mut run) = hear_stream(rt.alloc(), &[HELLO, HEAD, print], 100) else {
-        panic!(rt; "no memory");
+fn gap_begins_a_segment(rt: HostRuntime) -> Result<(), Fail> {
+    let run = fed(
+        rt.alloc(),
+        0,
+        100,
+        &[PRINTS, FEWER[0], FEWER[1], GAP, BLOCK[0], BLOCK[1]],
+    )?;
+    assert_eq!(rt; run.came, Progress::Going);
+    assert_eq!(rt;
+        run.log.written(),
+        b"S 3 B 0 G 1 W 0 V 0: none\n".as_slice()
+    );
+    Ok(())
+}
+
+#[test]
+fn fence_is_ahead_or_met(rt: HostRuntime) -> Result<(), Fail> {
+    let ahead = fed(
+        rt.alloc(),
+        0,
+        100,
+        &[PRINTS, FENCE_OF_1, BLOCK[0], BLOCK[1]],
+    )?;
+    assert_eq!(rt; ahead.came, Progress::Over(End::FenceAhead(1, 0)));
+    assert!(rt; ahead.log.written().is_empty());
+    let mut met = fed(rt.alloc(), 1, 100, &[PRINTS, FENCE_OF_1])?;
+    assert_eq!(rt; met.came, Progress::Going);
+    assert_eq!(rt; met.station.version(), 1);
+    assert_eq!(rt; met.station.stop_read(), End::ReadFault);
+    assert_eq!(rt; met.station.stop_gate(), End::ReadFault);
+    Ok(())
+}
+
+#[test]
+fn faults_of_the_stream_end_it(rt: HostRuntime) -> Result<(), Fail> {
+    let mut hello = fed(rt.alloc(), 0, 100, &[b"HKS9", BLOCK[0]])?;
+    assert_eq!(rt;
+        hello.came,
+        Progress::Over(End::Wire(WireFault::BadHello(3)))
+    );
+    assert_eq!(rt; hello.station.finish(), End::Wire(WireFault::BadHello(3)));
+    let mut cut = fed(rt.alloc(), 0, 100, &[PRINTS, BLOCK[0], b"\0\0"])?;
+    assert_eq!(rt; cut.came, Progress::Going);
+    assert_eq!(rt; cut.station.finish(), End::Wire(WireFault::Cut(11)));
+    let mut gate = fed(rt.alloc(), 0, 100, &[PRINTS])?;
+    assert_eq!(rt; gate.station.stop_gate(), End::GateFault);
+    Ok(())
+}
+
+#[test]
+fn silence_completes_a_block_at_its_last_byte(rt: HostRuntime) -> Result<(), Fail> {
+    let four = Print {
+        word: 0,
+        mask: 0x0000_000f,
     };
-    assert_eq!(rt; run.came, Heard::NotBuilt);
-    assert!(rt; run.log.written().is_empty());
-    assert!(rt; !run.station.may_end());
+    let early = fed(rt.alloc(), 7, 100, &[SOUND, b"\x01\x90\x00", &[0; 36863]])?;
+    assert!(rt; early.log.written().is_empty());
+    let run = fed(
+        rt.alloc(),
+        7,
+        100,
+        &[SOUND, b"\x01\x90\x00", &[0; 36863], b"\0"],
+    )?;
+    assert_eq!(rt;
+        run.log.written(),
+        b"S 3 B 0 G 0 W 0 V 7: none\n".as_slice()
+    );
+    assert!(rt; run.view.block.iter().all(|print| *print == four));
+    Ok(())
 }

@@ -4,7 +4,6 @@ pub mod LastItems
 pub mod InHello
 pub mod Behind
 pub mod StillKept
-pub mod Push
 pub mod WellFormed
 pub mod OpenGap
 pub mod ItemLaws

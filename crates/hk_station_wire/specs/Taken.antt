@@ -40,13 +40,13 @@ Brings (Err fault) reader limit text = station_met limit text ≡ Some fault
 
 -- at most so many bytes are taken
 abbrev pub limit_of : Wire → ℕ
-limit_of wire = wire.limit
+limit_of wire = wire.passage.limit
 
 -- the fault that the wire has met
 abbrev pub fault_met : Wire → Option WireFault
-fault_met wire = wire.fault
+fault_met wire = wire.passage.fault
 
 -- The wire has taken this text: it keeps the text's fault, and where there is none it stands at the text's end.
 pub record HasTaken (wire : Wire) (text : List ℕ) : Type 0 where
-  pub keeps : Keeps (station_met wire.limit) wire.fault wire.taken text
-  pub stands : wire.fault ≡ None → StandsAfter wire.reader text
+  pub keeps : Keeps station_met wire.passage text
+  pub stands : wire.passage.fault ≡ None → StandsAfter wire.reader text

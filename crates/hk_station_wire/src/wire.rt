@@ -4,20 +4,19 @@ ghost use Rattle.std.specs.Result.{result_err};
 ghost use Rattle.hk_base.specs.declared.plain.WireFault.{WireFault};
 ghost use Rattle.hk_spec_streams.specs.Station.{station_wrong, station_seen};
 ghost use Rattle.hk_station_wire.specs.Held.{count_of};
+ghost use Rattle.hk_station_wire.specs.Kept.{bytes_taken, fault_kept};
 
 use crate::item::Item;
+use crate::passage::Passage;
 use crate::reader::Reader;
 use hk_base::WireFault;
 
 /// A station's stream as far as it was taken. It keeps its place, its last packet and its fault, and no history.
 #[derive(Debug, Drop)]
 pub struct Wire {
-    limit: u64,
-    taken: u64,
+    passage: Passage,
     reader: Reader,
-    fault: Option<WireFault>,
-    ghost within: { taken ≤ limit },
-    ghost begun: { fault ≡ None → count_of reader.packet ≤ taken },
+    ghost begun: { fault_kept passage ≡ None → count_of reader.packet ≤ bytes_taken passage },
 }
 
 impl Wire {
@@ -30,10 +29,8 @@ impl Wire {
         ensures limit { limit_of result ≡ limit }
     {
         Wire {
-            limit,
-            taken: 0,
+            passage: Passage::new(limit),
             reader: Reader::new(),
-            fault: None,
         }
     }
 
@@ -46,31 +43,17 @@ impl Wire {
         ensures same_fault { (fault : WireFault) → fault_met self.old ≡ Some fault → result ≡ Item.Fault fault }
         ensures fault_changes_nothing { (fault : WireFault) → fault_met self.old ≡ Some fault → self.new ≡ self.old }
     {
-        match self.fault {
-            Some(fault) => Item::Fault(fault),
-            None => self.take(byte),
-        }
-    }
-
-    // Takes the next byte where no fault was met.
-    fn take(&mut self, byte: u8) -> Item
-        requires { fault_met self.old ≡ None }
-        ensures item { (text : List ℕ) → HasTaken self.old text → result ≡ item_at (limit_of self.old) (text ++ byte ∷ []) }
-        ensures taken { (text : List ℕ) → HasTaken self.old text → HasTaken self.new (text ++ byte ∷ []) }
-        ensures limit_stays { limit_of self.new ≡ limit_of self.old }
-    {
-        if self.taken == self.limit {
-            let fault = WireFault::TooLong(self.limit);
-            self.fault = Some(fault);
-            return Item::Fault(fault);
-        }
-        match self.reader.take(self.taken, byte) {
+        let place = match self.passage.next_place() {
+            Ok(place) => place,
+            Err(fault) => return Item::Fault(fault),
+        };
+        match self.reader.take(place, byte) {
             Ok(item) => {
-                self.taken += 1;
+                self.passage.advance();
                 item
             }
             Err(fault) => {
-                self.fault = Some(fault);
+                self.passage.fail(fault);
                 Item::Fault(fault)
             }
         }
@@ -82,17 +65,14 @@ impl Wire {
         ensures outcome { (text : List ℕ) → HasTaken self.old text → result_err result ≡ station_wrong (limit_of self.old) text }
         ensures changes_nothing { self.new ≡ self.old }
     {
-        match self.fault {
-            Some(fault) => Err(fault),
-            None if self.reader.is_at_start(self.taken) => Ok(()),
-            None => Err(WireFault::Cut(self.taken)),
-        }
+        let may_end = self.reader.is_at_start(self.passage.taken());
+        self.passage.finish(may_end)
     }
 
     /// How many bytes were taken before the fault, or in all.
     pub fn taken(&self) -> u64
         ensures { (text : List ℕ) → HasTaken self.now text → result ≡ length (station_seen (limit_of self.now) text) }
     {
-        self.taken
+        self.passage.taken()
     }
 }

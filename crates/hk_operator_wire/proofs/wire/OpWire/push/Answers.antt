@@ -1,23 +1,54 @@
-use Rattle.std.proofs.Common.{◌≡◌, ◌++◌, ◌∷◌, [], Some, None, ◌∙◌, sym, subst}
+use Rattle.std.proofs.Common.{◌≡◌, ◌++◌, ◌∷◌, [], length, None, ◌∙◌, ap, sym, arith}
 use Rattle.hk_spec_streams.specs.Operator.{operator_met}
-use Rattle.hk_spec_streams.proofs.NextFault.{fault_of-stays}
-use Rattle.hk_station_wire.specs.Kept.{Keeps}
-use Rattle.hk_station_wire.proofs.StillKept.{no_such, keeps_fault}
-use Rattle.hk_operator_wire.proofs.Taking.{item_at_fault}
+use Rattle.hk_station_wire.specs.Kept.{EndsAtLimit, fault_kept}
+use Rattle.hk_station_wire.proofs.StillKept.{no_such, fault_at}
+use Rattle.hk_operator_wire.proofs.Reading.{too_long}
+use Rattle.hk_operator_wire.proofs.Taking.{item_at_fault, item_at_none}
 use Rattle.hk_operator_wire.proofs.wire.OpWire.push.Goals as goal
 
-pub returns-in-Some-clause-item : goal.returns-in-Some-clause-item
-returns-in-Some-clause-item c = λ text h.
-    let met = operator_met c.args.self.now.limit in
-    sym (item_at_fault c.args.self.now.limit (text ++ c.args.byte ∷ []) c.in-Some.fault
-    (fault_of-stays met text c.args.byte c.in-Some.fault (sym h.keeps.fault_is ∙ c.in-Some.is)).0)
+at_limit : EndsAtLimit operator_met
+at_limit text byte = too_long (length text) text byte (omega arith)
 
-pub returns-in-Some-clause-taken : goal.returns-in-Some-clause-taken
-returns-in-Some-clause-taken c = λ text h.
-    let met = operator_met c.args.self.now.limit in
-    let taken = c.args.self.now.taken in
+pub returns-in-Err-clause-item : goal.returns-in-Err-clause-item
+returns-in-Err-clause-item c = λ text has.
+    sym (item_at_fault c.args.self.now.passage.limit (text ++ c.args.byte ∷ []) c.in-Err.fault
+    (fault_at operator_met c.next_place.new.self _ _ _ (c.in-Err.ensures.keeps operator_met text c.args.byte at_limit has.keeps)
+    c.next_place.ensures.limit_stays (sym c.in-Err.ensures.fault)))
+
+pub returns-in-Err-clause-taken : goal.returns-in-Err-clause-taken
+returns-in-Err-clause-taken c = λ text has. record {
+  keeps = c.in-Err.ensures.keeps operator_met text c.args.byte at_limit has.keeps;
+  stands = λ none. absurd (no_such c.in-Err.fault (sym c.in-Err.ensures.fault) none);
+}
+
+pub returns-in-Ok-take-clause-item : goal.returns-in-Ok-take-clause-item
+returns-in-Ok-take-clause-item c = λ text has.
+    let none : fault_kept c.next_place.new.self ≡ None = sym c.in-Ok.ensures.fault in
+    let place = c.in-Ok.ensures.at_end operator_met text has.keeps in
+    let stands = has.stands (sym (ap fault_kept c.in-Ok.ensures.same_place) ∙ none) in
+    c.in-Ok-take.ensures.item text place stands ∙ sym (item_at_none c.args.self.now.passage.limit (text ++ c.args.byte ∷ [])
+    (fault_at operator_met c.advance.new.self _ _ _
+    (c.advance.ensures.keeps operator_met text c.args.byte none (c.in-Ok.ensures.still_keeps operator_met text has.keeps)
+    (sym (c.in-Ok-take.ensures.fault c.next_place.new.self.limit text place c.in-Ok.ensures.room stands)))
+    (c.advance.ensures.limit_stays ∙ c.next_place.ensures.limit_stays) (c.advance.ensures.same_fault ∙ none)))
+
+pub returns-in-Ok-take-clause-taken : goal.returns-in-Ok-take-clause-taken
+returns-in-Ok-take-clause-taken c = λ text has.
+    let none : fault_kept c.next_place.new.self ≡ None = sym c.in-Ok.ensures.fault in
+    let place = c.in-Ok.ensures.at_end operator_met text has.keeps in
+    let stands = has.stands (sym (ap fault_kept c.in-Ok.ensures.same_place) ∙ none) in
     record {
-      keeps = subst (λ f. Keeps met f taken (text ++ c.args.byte ∷ [])) (sym c.in-Some.is)
-          (keeps_fault met taken text c.args.byte c.in-Some.fault (subst (λ f. Keeps met f taken text) c.in-Some.is h.keeps));
-      stands = λ none. absurd (no_such c.in-Some.fault c.in-Some.is none);
+      keeps = c.advance.ensures.keeps operator_met text c.args.byte none (c.in-Ok.ensures.still_keeps operator_met text has.keeps)
+          (sym (c.in-Ok-take.ensures.fault c.next_place.new.self.limit text place c.in-Ok.ensures.room stands));
+      stands = λ still. c.in-Ok-take.ensures.stands text place stands;
     }
+
+pub returns-in-Err-take-clause-item : goal.returns-in-Err-take-clause-item
+returns-in-Err-take-clause-item c = λ text has.
+    let none : fault_kept c.next_place.new.self ≡ None = sym c.in-Ok.ensures.fault in
+    let stands = has.stands (sym (ap fault_kept c.in-Ok.ensures.same_place) ∙ none) in
+    sym (item_at_fault c.args.self.now.passage.limit (text ++ c.args.byte ∷ []) c.in-Err-take.fault
+    (fault_at operator_met c.fail.new.self _ _ _
+    (c.fail.ensures.keeps operator_met text c.args.byte none (c.in-Ok.ensures.still_keeps operator_met text has.keeps)
+    (sym (c.in-Err-take.ensures.fault c.next_place.new.self.limit text (c.in-Ok.ensures.at_end operator_met text has.keeps) c.in-Ok.ensures.room stands)))
+    (c.fail.ensures.limit_stays ∙ c.next_place.ensures.limit_stays) c.fail.ensures.fault))

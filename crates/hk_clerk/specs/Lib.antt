@@ -1,7 +1,0 @@
-pub mod Kept
-pub mod Inside
-pub mod Parts
-pub mod Draft
-pub mod Sound
-pub mod Desk
-pub mod Obeying

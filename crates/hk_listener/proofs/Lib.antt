@@ -1,3 +1,0 @@
-pub mod Feeding
-pub mod Hearing
-pub mod Outcomes

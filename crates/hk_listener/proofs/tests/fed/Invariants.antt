@@ -1,4 +1,0 @@
-use Rattle.hk_listener.proofs.tests.fed.Given as goal
-
-abbrev pub ghosts-fed_in : goal.ghosts-fed_in
-ghosts-fed_in a = record { name = a.blank.name; parts = a.blank.parts }

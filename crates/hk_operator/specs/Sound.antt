@@ -1,0 +1,65 @@
+-- The open song, and the sound that came.
+use Rattle.std.specs.Prelude.{◌≡◌, ℕ, ◌==◌, true, if◌then◌else◌, List, [], ◌∷◌, ◌++◌, drop, slice_index, Option, Some, None}
+use Rattle.hk_base.specs.declared.plain.Form.{Form}
+use Rattle.hk_spec_sound.specs.Prints.{full_analysis}
+use Rattle.hk_spec_streams.specs.Pieces.{is_one_of}
+use Rattle.hk_spec_streams.specs.Operator.{Command, AddWords, OpenSong, Audio, Close, Withdraw, Publish, AUDIO}
+use Rattle.hk_spec_matching.specs.Matching.{MOST_ERRORS}
+use Rattle.hk_spec_runs.specs.Desk.{Rules, Recording, recorded_words}
+use Rattle.hk_operator_wire.specs.declared.item.OpItem.{OpItem}
+use Rattle.hk_operator_wire.specs.declared.item.OpItem.TheVariants as items
+use Rattle.hk_operator_wire.specs.Items.{is_whole_command}
+use Rattle.hk_front.specs.Hearing.{channels_of, factor_of}
+use Rattle.hk_front.specs.Hearing as front
+use Rattle.hk_operator.specs.Kept.{Keeps}
+use Rattle.hk_operator.specs.declared.recorder.Recorder.{Recorder}
+
+-- the rules that are built in
+pub record IsFixed (rules : Rules) : Type 0 where
+  pub block_size : rules.setting.block_size ≡ 256
+  pub errors : rules.errors ≡ MOST_ERRORS
+  pub analysis : rules.setting.analysis ≡ full_analysis
+
+-- one channel or two, and a factor of 1, 2, 4 or 8
+abbrev pub IsAllowedForm : Form → Type 0
+IsAllowedForm form = (is_one_of (1 ∷ 2 ∷ []) form.channels ≡ true) × (is_one_of (1 ∷ 2 ∷ 4 ∷ 8 ∷ []) form.factor ≡ true)
+
+-- the sound that an item brings, that a command has, and that a command's bytes have
+abbrev pub sound_in : OpItem → List ℕ
+sound_in (items.Byte byte) = byte ∷ []
+sound_in items.Nothing = []
+sound_in (items.Begin kind) = []
+sound_in (items.Id id) = []
+sound_in (items.Word word) = []
+sound_in (items.Form form) = []
+sound_in items.Complete = []
+sound_in (items.Both last) = []
+sound_in (items.Fault fault) = []
+
+abbrev pub sound_of : Command → List ℕ
+sound_of (Audio bytes) = bytes
+sound_of (AddWords id words) = []
+sound_of (OpenSong id form) = []
+sound_of Close = []
+sound_of (Withdraw id) = []
+sound_of Publish = []
+
+abbrev pub sound_there : List ℕ → List ℕ
+sound_there bytes = if slice_index bytes 0 == AUDIO then drop 5 bytes else []
+
+-- the sound of a command that isn't whole yet
+abbrev pub sound_ahead : List ℕ → List ℕ
+sound_ahead bytes = if is_whole_command bytes then [] else sound_there bytes
+
+-- The recorder has heard this sound of the song.
+pub record Hears (rules : Rules) (recorder : Recorder) (song : Recording) (heard : List ℕ) : Type 0 where
+  pub id : recorder.song ≡ Some song.id
+  pub channels : channels_of recorder.front ≡ song.form.channels
+  pub factor : factor_of recorder.front ≡ song.form.factor
+  pub taken : front.HasTaken recorder.front heard
+  pub words : Keeps recorder.words (recorded_words rules (record song { audio = heard }))
+
+-- The recorder has heard the open song's sound, and the sound behind it.
+abbrev pub IsRecording : Rules → Recorder → Option Recording → List ℕ → Type 0
+IsRecording rules recorder None sound = recorder.song ≡ None
+IsRecording rules recorder (Some song) sound = Hears rules recorder song (song.audio ++ sound)

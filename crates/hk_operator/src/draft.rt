@@ -1,0 +1,52 @@
+// The open command, as far as it came.
+ghost use Rattle.std.specs.Prelude.{◌≡◌, ◌≤◌, ◌^◌, IfOk};
+ghost use Rattle.hk_operator.specs.Draft.{new_draft, draft_after};
+
+use crate::kept::Kept;
+use hk_base::{Form, NoMemory};
+use hk_operator_wire::OpItem;
+use std::alloc::Global;
+
+/// A command's kind, its id, its form and its words; what didn't come is left over from an earlier command.
+#[derive(Drop)]
+pub struct Draft {
+    pub kind: u8,
+    pub id: u32,
+    pub form: Form,
+    pub words: Kept,
+}
+
+impl Draft {
+    /// No command, with room for so many words.
+    pub fn new(alloc: Global, room: u32) -> Result<Draft, NoMemory>
+        requires enough { 256 ≤ room }
+        requires most { room ≤ 2 ^ 24 }
+        ensures { IfOk result (λ d. d ≡ new_draft room) }
+    {
+        Ok(Draft {
+            kind: 0,
+            id: 0,
+            form: Form {
+                channels: 1,
+                factor: 1,
+            },
+            words: Kept::new(alloc, room)?,
+        })
+    }
+
+    /// Takes what an item brings.
+    pub fn take(&mut self, part: OpItem)
+        ensures { self.new ≡ draft_after self.old part }
+    {
+        match part {
+            OpItem::Begin(kind) => {
+                self.kind = kind;
+                self.words.clear();
+            }
+            OpItem::Id(id) => self.id = id,
+            OpItem::Word(word) => self.words.push(word),
+            OpItem::Form(form) => self.form = form,
+            _ => {}
+        }
+    }
+}

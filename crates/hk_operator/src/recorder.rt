@@ -1,0 +1,105 @@
+// The open song: its sound in, its words kept.
+ghost use Rattle.std.specs.Prelude.{◌≡◌, ◌≤◌, ◌^◌, ◌++◌, [], List, ℕ, Option, None, IfOk};
+ghost use Rattle.hk_spec_runs.specs.Desk.{Rules, Desk, Recording, answer, after};
+ghost use Rattle.hk_spec_streams.specs.Operator.{OpenSong, Audio};
+ghost use Rattle.hk_operator.specs.Kept.{no_words};
+ghost use Rattle.hk_operator.specs.Sound.{IsRecording, IsFixed, sound_in, IsAllowedForm};
+
+use crate::kept::Kept;
+use hk_base::{Form, NoMemory, Reason, What};
+use hk_front::Front;
+use hk_operator_wire::OpItem;
+use std::alloc::Global;
+
+/// The front that hears the open song, the song's id where one is open, and its words.
+#[derive(Drop)]
+pub struct Recorder {
+    pub front: Front,
+    pub song: Option<u32>,
+    pub words: Kept,
+}
+
+// The number where it is 1 to `most`, and else the nearer of them.
+fn bounded(number: u8, most: u8) -> u8
+    requires some { 1 ≤ most }
+    ensures least { 1 ≤ result }
+    ensures most { result ≤ most }
+    ensures same { 1 ≤ number → number ≤ most → result ≡ number }
+{
+    if number < 1 {
+        1
+    } else if most < number {
+        most
+    } else {
+        number
+    }
+}
+
+impl Recorder {
+    /// No open song, with room for so many words of one. No bit of a print is weak, since the words alone are kept.
+    pub fn new(alloc: Global, room: u32) -> Result<Recorder, NoMemory>
+        requires enough { 256 ≤ room }
+        requires most { room ≤ 2 ^ 24 }
+        ensures song { IfOk result (λ r. r.song ≡ None) }
+        ensures words { IfOk result (λ r. r.words ≡ no_words room) }
+    {
+        Ok(Recorder {
+            front: Front::new(alloc, 0)?,
+            song: None,
+            words: Kept::new(alloc, room)?,
+        })
+    }
+
+    /// Hears what an item brings, where it is sound and a song is open.
+    pub fn take(&mut self, part: OpItem)
+        ensures hears { (rules : Rules) (song : Option Recording) (sound : List ℕ) → IsFixed rules → IsRecording rules self.old song sound → IsRecording rules self.new song (sound ++ sound_in part) }
+        ensures room { self.new.words.room ≡ self.old.words.room }
+    {
+        if let OpItem::Byte(byte) = part {
+            self.hear(byte);
+        }
+    }
+
+    // Hears a byte where a song is open.
+    fn hear(&mut self, byte: u8)
+        ensures hears { (rules : Rules) (song : Option Recording) (sound : List ℕ) → IsFixed rules → IsRecording rules self.old song sound → IsRecording rules self.new song (sound ++ sound_in (OpItem.Byte byte)) }
+        ensures room { self.new.words.room ≡ self.old.words.room }
+    {
+        if self.song.is_none() {
+            return;
+        }
+        if let Some(print) = self.front.push(byte) {
+            self.words.push(print.word);
+        }
+    }
+
+    /// Opens a song, or tells that one is open.
+    pub fn open(&mut self, id: u32, form: Form) -> What
+        ensures answer { (rules : Rules) (desk : Desk) → IsRecording rules self.old desk.song [] → result ≡ answer rules desk (OpenSong id form) }
+        ensures song { (rules : Rules) (desk : Desk) → IsFixed rules → IsAllowedForm form → IsRecording rules self.old desk.song []
+            → IsRecording rules self.new (after rules desk (OpenSong id form) result).song [] }
+        ensures room { self.new.words.room ≡ self.old.words.room }
+    {
+        if self.song.is_some() {
+            return What::Refused(Reason::SongOpen);
+        }
+        self.front
+            .start(bounded(form.channels, 2), bounded(form.factor, 8));
+        self.words.clear();
+        self.song = Some(id);
+        What::Done
+    }
+
+    /// What is answered to sound: whether a song is open.
+    pub fn audio(&self) -> What
+        ensures answer { (rules : Rules) (desk : Desk) (sound : List ℕ) → IsRecording rules self.now desk.song sound → result ≡ answer rules desk (Audio sound) }
+        ensures song { (rules : Rules) (desk : Desk) (sound : List ℕ) → IsRecording rules self.now desk.song sound
+            → IsRecording rules self.now (after rules desk (Audio sound) result).song [] }
+    {
+        if self.song.is_some() {
+            What::Done
+        } else {
+            What::Refused(Reason::NoSongOpen)
+        }
+    }
+}

@@ -1,4 +1,0 @@
-pub mod Plain
-pub mod Store
-pub mod Scan
-pub mod Inside

@@ -1,5 +1,0 @@
-use Rattle.hk_replay.proofs.top.print_sound.Given as goal
-
--- the steps are counted in the ledger of the blank
-abbrev pub ghosts-print_counted : goal.ghosts-print_counted
-ghosts-print_counted g a = record { name = a.blank.name; parts = a.blank.parts }

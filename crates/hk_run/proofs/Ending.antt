@@ -1,0 +1,127 @@
+-- The summary's lines of the stations, one after another.
+use Rattle.std.proofs.Common.{◌≡◌, ℕ, zero, suc, ◌+◌, ◌<◌, List, [], ◌∷◌, ◌++◌, length, take, drop, refl, sym, ◌∙◌, ap, subst, arith, append-nil, append_assoc, Bool, true, false, Option, Some, None}
+use Rattle.std.specs.Prelude.{slice_get, slice_set, flat_map, ◌&&◌, is_none, unwrap_or}
+use Rattle.std.specs.Option.{option_map_or}
+use Rattle.std.specs.List.{enumerate_from, list_all}
+use Rattle.std.proofs.lemmas.List.{take-append-drop, length-take-le}
+use Rattle.std.proofs.lemmas.List.Folds.{list_all-append}
+use Rattle.std.proofs.lemmas.List.Concat.{flat_map-append}
+use Rattle.std.proofs.lemmas.Option.{slice_get_within}
+use Rattle.hk_base.specs.Devices.{Wrote}
+use Rattle.hk_base.specs.declared.plain.End.{End}
+use Rattle.hk_base.specs.declared.plain.End.TheVariants as ends
+use Rattle.hk_base.specs.declared.plain.WireFault.{WireFault}
+use Rattle.hk_spec_streams.specs.Station.{station_wrong}
+use Rattle.hk_spec_streams.proofs.GrowingBlocks.{enumerate-append}
+use Rattle.hk_spec_runs.specs.Desk.{Rules}
+use Rattle.hk_spec_runs.specs.Replay.{Listener, end_of}
+use Rattle.hk_report.specs.Fronts.{WroteFront}
+use Rattle.hk_run.specs.Course.{listener_line, lines_from, station_lines, is_ended, is_in_order, all_ended}
+use Rattle.hk_run.proofs.Finishing.{both_lines, first_torn, second_torn}
+
+module _ {A : Type 0} where
+  next_taken : (xs : List A) (i : ℕ) (x : A) → slice_get xs i ≡ Some x → take (suc i) xs ≡ take i xs ++ x ∷ []
+  next_taken [] i x is = cc
+  next_taken (y ∷ xs) zero x is = ap (λ o. unwrap_or o y ∷ []) is
+  next_taken (y ∷ xs) (suc i) x is = ap (λ ys. y ∷ ys) (next_taken xs i x is)
+
+  first_left : (xs : List A) (i : ℕ) → slice_get xs i ≡ slice_get (drop i xs) 0
+  first_left [] zero = refl
+  first_left [] (suc i) = refl
+  first_left (y ∷ xs) zero = refl
+  first_left (y ∷ xs) (suc i) = first_left xs i
+
+  -- the items behind one are the same after it was exchanged
+  others_stay : (xs : List A) (i : ℕ) (x : A) → drop (suc i) (slice_set xs i x) ≡ drop (suc i) xs
+  others_stay [] i x = refl
+  others_stay (y ∷ xs) zero x = refl
+  others_stay (y ∷ xs) (suc i) x = others_stay xs i x
+
+  fewer_left : (xs ys : List A) (i : ℕ) → drop i xs ≡ drop i ys → drop (suc i) xs ≡ drop (suc i) ys
+  fewer_left xs ys i is = sym (one_less xs i) ∙ ap (drop 1) is ∙ one_less ys i
+    where
+      one_less : (zs : List A) (n : ℕ) → drop 1 (drop n zs) ≡ drop (suc n) zs
+      one_less [] zero = refl
+      one_less [] (suc n) = refl
+      one_less (z ∷ zs) zero = refl
+      one_less (z ∷ zs) (suc n) = one_less zs n
+
+  pub still_left : (old now : List A) (i : ℕ) (x : A) → drop i now ≡ drop i old → drop (i + 1) (slice_set now i x) ≡ drop (i + 1) old
+  still_left old now i x is =
+      let one : suc i ≡ i + 1 = omega arith in
+      subst (λ n. drop n (slice_set now i x) ≡ drop n old) one (others_stay now i x ∙ fewer_left now old i is)
+
+  pub still_there : (old now : List A) (i : ℕ) (x : A) → drop i now ≡ drop i old → slice_get now i ≡ Some x → slice_get old i ≡ Some x
+  still_there old now i x is there = first_left old i ∙ ap (λ zs. slice_get zs 0) (sym is) ∙ sym (first_left now i) ∙ there
+
+four_tests : (a b p q : Bool) → ((a && (p && true)) && (b && (q && true))) ≡ ((a && b) && (p && q))
+four_tests true true true q = and_true q
+  where
+    and_true : (q : Bool) → (q && true) ≡ q
+    and_true true = refl
+    and_true false = refl
+four_tests true true false q = refl
+four_tests true false true q = refl
+four_tests true false false q = refl
+four_tests false b p q = refl
+
+module _ (rules : Rules) (listeners : List Listener) (i : ℕ) (l : Listener) (there : slice_get listeners i ≡ Some l) where
+  taken : take (i + 1) listeners ≡ take i listeners ++ l ∷ []
+  taken =
+      let one : suc i ≡ i + 1 = omega arith in
+      subst (λ n. take n listeners ≡ take i listeners ++ l ∷ []) one (next_taken listeners i l there)
+
+  lines_more : station_lines rules (take (i + 1) listeners) ≡ station_lines rules (take i listeners) ++ listener_line rules (i, l)
+  lines_more =
+      let long : length (take i listeners) ≡ i = length-take-le i listeners (let inside : i < length listeners = slice_get_within listeners i l there in omega (arith, inside)) in
+      let number : 0 + length (take i listeners) ≡ i = omega (arith, long) in
+      ap (station_lines rules) taken
+      ∙ ap (flat_map (listener_line rules)) (enumerate-append 0 (take i listeners) (l ∷ []))
+      ∙ flat_map-append (listener_line rules) (enumerate_from 0 (take i listeners)) (enumerate_from (0 + length (take i listeners)) (l ∷ []))
+      ∙ ap (λ t. station_lines rules (take i listeners) ++ t) (append-nil (listener_line rules (0 + length (take i listeners), l)))
+      ∙ ap (λ n. station_lines rules (take i listeners) ++ listener_line rules (n, l)) number
+
+  pub wrote_more : (u v w : Option (List ℕ)) → Wrote (station_lines rules (take i listeners)) u v → Wrote (listener_line rules (i, l)) v w → Wrote (station_lines rules (take (i + 1) listeners)) u w
+  wrote_more u v w first second = both_lines _ _ _ u v w lines_more first second
+
+  pub ended_more : (all now : Bool) → all ≡ all_ended rules (take i listeners) → now ≡ is_in_order rules l → (all && now) ≡ all_ended rules (take (i + 1) listeners)
+  ended_more all now so_far this =
+      ap (λ t. t && now) so_far ∙ ap (λ t. all_ended rules (take i listeners) && t) this
+      ∙ sym (ap (all_ended rules) taken
+      ∙ ap (λ t. t && list_all (λ (m : Listener). is_none (station_wrong rules.bytes m.used)) (take i listeners ++ l ∷ [])) (list_all-append (λ (m : Listener). is_none m.end) (take i listeners) (l ∷ []))
+      ∙ ap (λ t. (list_all (λ (m : Listener). is_none m.end) (take i listeners) && (is_none l.end && true)) && t) (list_all-append (λ (m : Listener). is_none (station_wrong rules.bytes m.used)) (take i listeners) (l ∷ []))
+      ∙ four_tests (list_all (λ (m : Listener). is_none m.end) (take i listeners)) (list_all (λ (m : Listener). is_none (station_wrong rules.bytes m.used)) (take i listeners)) (is_none l.end) (is_none (station_wrong rules.bytes l.used)))
+
+  rest : (more : List ℕ) × (station_lines rules listeners ≡ station_lines rules (take (i + 1) listeners) ++ more)
+  rest =
+      let front : List Listener = take (i + 1) listeners in (
+        lines_from rules (0 + length front) (drop (i + 1) listeners),
+        ap (station_lines rules) (sym (take-append-drop (i + 1) listeners))
+            ∙ ap (flat_map (listener_line rules)) (enumerate-append 0 front (drop (i + 1) listeners))
+            ∙ flat_map-append (listener_line rules) (enumerate_from 0 front) (enumerate_from (0 + length front) (drop (i + 1) listeners)),
+      )
+
+  pub torn_there : (u v w : Option (List ℕ)) → Wrote (station_lines rules (take i listeners)) u v → WroteFront (listener_line rules (i, l)) v w → WroteFront (station_lines rules listeners) u w
+  torn_there u v w first front =
+      second_torn (station_lines rules (take i listeners)) (listener_line rules (i, l) ++ rest.0) (station_lines rules listeners) u v w
+      (rest.1 ∙ ap (λ t. t ++ rest.0) lines_more ∙ append_assoc (station_lines rules (take i listeners)) (listener_line rules (i, l)) rest.0)
+      first (first_torn (listener_line rules (i, l)) rest.0 (listener_line rules (i, l) ++ rest.0) v w refl front)
+
+-- the line of a listener, by its station's number
+pub wrote_at : (rules : Rules) (l : Listener) (n i : ℕ) → n ≡ 0 + i → (u v : Option (List ℕ)) → Wrote (listener_line rules (n, l)) u v → Wrote (listener_line rules (i, l)) u v
+wrote_at rules l n i same u v wrote = let number : n ≡ i = omega (arith, same) in subst (λ k. Wrote (listener_line rules (k, l)) u v) number wrote
+
+pub front_at : (rules : Rules) (l : Listener) (n i : ℕ) → n ≡ 0 + i → (u v : Option (List ℕ)) → WroteFront (listener_line rules (n, l)) u v → WroteFront (listener_line rules (i, l)) u v
+front_at rules l n i same u v front = let number : n ≡ i = omega (arith, same) in subst (λ k. WroteFront (listener_line rules (k, l)) u v) number front
+
+-- how a station ends, by whether it is over and what is wrong with its bytes
+module _ (rules : Rules) (l : Listener) where
+  by_wrong : (o : Option WireFault) → is_ended (option_map_or (λ fault. ends.Wire fault) o ends.Ended) ≡ is_none o
+  by_wrong None = refl
+  by_wrong (Some fault) = refl
+
+  pub in_order_by : (kept : Option End) → kept ≡ l.end → (end : End) → end ≡ end_of rules l → (is_none kept && is_ended end) ≡ is_in_order rules l
+  in_order_by None is end ends_so =
+      ap is_ended (ends_so ∙ ap (λ o. unwrap_or o (option_map_or (λ fault. ends.Wire fault) (station_wrong rules.bytes l.used) ends.Ended)) (sym is)) ∙ by_wrong (station_wrong rules.bytes l.used)
+      ∙ ap (λ o. is_none o && is_none (station_wrong rules.bytes l.used)) is
+  in_order_by (Some kept) is end ends_so = ap (λ o. is_none o && is_none (station_wrong rules.bytes l.used)) is

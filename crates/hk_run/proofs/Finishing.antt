@@ -1,0 +1,94 @@
+-- The end of an input: the summary.
+use Rattle.std.proofs.Common.{◌≡◌, ℕ, ◌<◌, List, ◌++◌, length, refl, sym, ◌∙◌, ap, subst, arith, length-append, append_assoc, Bool, true, false, Option, Some, None, Ok, Err, Result}
+use Rattle.std.specs.Prelude.{◌&&◌, is_none, unwrap_or}
+use Rattle.std.specs.Option.{option_map_or, option_or}
+use Rattle.std.specs.List.{list_all}
+use Rattle.hk_base.specs.Devices.{Wrote}
+use Rattle.hk_base.proofs.Taking.{Wrote-append}
+use Rattle.hk_base.specs.declared.plain.OpEnd.{OpEnd}
+use Rattle.hk_base.specs.declared.plain.OpEnd.TheVariants as op_ends
+use Rattle.hk_base.specs.declared.plain.WireFault.{WireFault}
+use Rattle.hk_base.specs.declared.plain.Trouble.{Trouble}
+use Rattle.hk_base.specs.declared.plain.Trouble.TheVariants.{BadRecord}
+use Rattle.hk_spec_streams.specs.Station.{station_wrong}
+use Rattle.hk_spec_streams.specs.Operator.{commands, operator_wrong}
+use Rattle.hk_spec_streams.specs.Records.{input_wrong, open_record}
+use Rattle.hk_spec_lines.specs.Lines.{operator_line}
+use Rattle.hk_spec_runs.specs.Desk.{Rules, Desk}
+use Rattle.hk_spec_runs.specs.Outcome.{has_ended}
+use Rattle.hk_spec_runs.specs.Replay.{Scene, Listener, Clerk, summary, operator_end_of}
+use Rattle.hk_records.specs.Reader.{EndsWith, limit_of, stations_of}
+use Rattle.hk_report.specs.Fronts.{WroteFront}
+use Rattle.hk_block.specs.Looker.{ShelfView}
+use Rattle.hk_probe.specs.Single.{shelf_of}
+use Rattle.hk_operator.specs.Obeying.{IsObeying, IsAtEnd}
+use Rattle.hk_operator.specs.declared.operator.Operator.{Operator}
+use Rattle.hk_run.specs.Course.{replay_course, station_lines, all_ended, operator_ended}
+use Rattle.hk_run.specs.Holding.{Holds}
+use Rattle.hk_run.specs.Playing.{HasPlayed}
+use Rattle.hk_run.specs.declared.run.Run.{Run}
+
+-- Two lines one after another.
+pub both_lines : (a b whole : List ℕ) (u v w : Option (List ℕ)) → whole ≡ a ++ b → Wrote a u v → Wrote b v w → Wrote whole u w
+both_lines a b whole u v w is first second = subst (λ (t : List ℕ). Wrote t u w) (sym is) (Wrote-append a b u v w first second)
+
+pub first_torn : (a b whole : List ℕ) (u v : Option (List ℕ)) → whole ≡ a ++ b → WroteFront a u v → WroteFront whole u v
+first_torn a b whole u v is front =
+    let more : 0 < length (front.1 ++ b) = omega (arith, front.3, length-append front.1 b) in
+    (front.0, front.1 ++ b, is ∙ ap (λ t. t ++ b) front.2 ∙ append_assoc front.0 front.1 b, more, front.4)
+
+pub second_torn : (a b whole : List ℕ) (u v w : Option (List ℕ)) → whole ≡ a ++ b → Wrote a u v → WroteFront b v w → WroteFront whole u w
+second_torn a b whole u v w is first front =
+    (a ++ front.0, front.1, is ∙ ap (λ t. a ++ t) front.2 ∙ sym (append_assoc a front.0 front.1), front.3, Wrote-append a front.0 u v w first front.4)
+
+module _ (rules : Rules) (run : Run) (refused text : List ℕ) (h : HasPlayed rules run refused text) where
+  -- the reader's end, as the course has it
+  at_border : (T : Type 0) (x : T) → EndsWith {A = T} (stations_of run.reader) (limit_of run.reader) text (Ok x) → (replay_course rules).ending text ≡ None
+  at_border T x ends =
+      sym (ap (λ f. option_or f (option_map_or (λ r. Some (BadRecord r.place)) (open_record text) None)) h.no_fault)
+      ∙ ap (λ s. input_wrong s rules.bytes text) (sym h.stations) ∙ ap (λ l. input_wrong (stations_of run.reader) l text) (sym h.limit) ∙ ends
+
+  -- an end that is no fault of the reader's
+  pub between : (T : Type 0) (result : Result T Trouble) → EndsWith (stations_of run.reader) (limit_of run.reader) text result → ((trouble : Trouble) → result ≡ Err trouble → ⊥)
+      → (replay_course rules).ending text ≡ None
+  between T (Ok x) ends fine = at_border T x ends
+  between T (Err trouble) ends fine = absurd (fine trouble refl)
+
+-- the stations' lines, and then the operator's
+pub summary_is : (rules : Rules) (scene : Scene) → summary rules scene
+    ≡ station_lines rules scene.listeners ++ operator_line (length (commands scene.clerk.used)) (length scene.desk.journal) (operator_end_of rules scene.clerk)
+summary_is rules scene = refl
+
+pub operator_line_is : (n v : ℕ) (e : OpEnd) (n' v' : ℕ) (e' : OpEnd) → n ≡ n' → v ≡ v' → e ≡ e' → operator_line n v e ≡ operator_line n' v' e'
+operator_line_is n v e n' v' e' counts versions ends =
+    ap (λ m. operator_line m v e) counts ∙ ap (λ w. operator_line n' w e) versions ∙ ap (λ x. operator_line n' v' x) ends
+
+-- whether the operator ends in order, by how it is over and what is wrong with its bytes
+module _ (rules : Rules) (operator : Operator) (view : ShelfView) (clerk : Clerk) (desk : Desk) where
+  by_wrong : (o : Option WireFault) → operator_ended (option_map_or (λ fault. op_ends.Wire fault) o op_ends.Ended) ≡ is_none o
+  by_wrong None = refl
+  by_wrong (Some fault) = refl
+
+  by_end : (kept : Option OpEnd) → IsAtEnd rules operator clerk.used desk.song kept
+      → operator_ended (unwrap_or kept (option_map_or (λ fault. op_ends.Wire fault) (operator_wrong rules.bytes clerk.used) op_ends.Ended)) ≡ (is_none kept && is_none (operator_wrong rules.bytes clerk.used))
+  by_end None h = by_wrong (operator_wrong rules.bytes clerk.used)
+  by_end (Some (op_ends.Wire fault)) h = refl
+  by_end (Some op_ends.Ended) h = absurd h
+  by_end (Some op_ends.ReadFault) h = absurd h
+  by_end (Some op_ends.SinkFault) h = absurd h
+
+  operator_in_order : IsObeying rules operator view clerk desk → operator_ended (operator_end_of rules clerk) ≡ (is_none clerk.end && is_none (operator_wrong rules.bytes clerk.used))
+  operator_in_order h = by_end clerk.end h.stream
+
+four_tests : (a b c d : Bool) → (a && b && c && d) ≡ ((a && b) && (c && d))
+four_tests true true c d = refl
+four_tests true false c d = refl
+four_tests false b c d = refl
+
+-- all streams end in order, where all stations and the operator do
+pub in_order_is : (rules : Rules) (run : Run) (scene : Scene) → Holds rules run scene → (stations : Bool) (end : OpEnd) → stations ≡ all_ended rules scene.listeners → end ≡ operator_end_of rules scene.clerk
+    → has_ended rules scene ≡ (stations && operator_ended end)
+in_order_is rules run scene h stations end all last =
+    four_tests (list_all (λ (l : Listener). is_none l.end) scene.listeners) (list_all (λ (l : Listener). is_none (station_wrong rules.bytes l.used)) scene.listeners) (is_none scene.clerk.end) (is_none (operator_wrong rules.bytes scene.clerk.used))
+    ∙ ap (λ t. all_ended rules scene.listeners && t) (sym (operator_in_order rules run.operator (shelf_of run.catalogue) scene.clerk scene.desk h.obeys) ∙ ap operator_ended (sym last))
+    ∙ ap (λ t. t && operator_ended end) (sym all)

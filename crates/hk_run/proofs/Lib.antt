@@ -1,0 +1,11 @@
+pub mod Arriving
+pub mod Printing
+pub mod Stations
+pub mod Hearing
+pub mod Obeying
+pub mod Settling
+pub mod Taking
+pub mod Finishing
+pub mod Ending
+pub mod Opens
+pub mod Tasks

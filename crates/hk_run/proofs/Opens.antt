@@ -1,0 +1,52 @@
+-- A run before its first byte.
+use Rattle.std.proofs.Common.{◌≡◌, ℕ, ◌+◌, [], ◌∷◌, ◌++◌, refl, sym, subst, arith}
+use Rattle.std.specs.Prelude.{replicate}
+use Rattle.std.proofs.lemmas.List.{replicate-append-replicate}
+use Rattle.hk_spec_runs.specs.Desk.{Rules, new_desk}
+use Rattle.hk_spec_streams.specs.Records.{arrivals}
+use Rattle.hk_spec_streams.specs.Pieces.{pieces_within}
+use Rattle.hk_spec_matching.specs.Catalogue.{version}
+use Rattle.hk_records.specs.Reader.{HasRead, limit_of, stations_of}
+use Rattle.hk_records.proofs.Reading.{no_text}
+use Rattle.hk_probe.specs.Single.{Single, new_single, shelf_of}
+use Rattle.hk_station.specs.Hearing.{unheard}
+use Rattle.hk_operator.specs.Desk.{IsAtDesk}
+use Rattle.hk_operator.specs.Sound.{IsFixed}
+use Rattle.hk_operator.specs.Obeying.{IsObeying, new_clerk}
+use Rattle.hk_receiver.specs.Kept.{IsSetTo}
+use Rattle.hk_words.specs.Orders.{rules_meant, RulesFit}
+use Rattle.hk_words.specs.declared.order.RunRules.{RunRules}
+use Rattle.hk_run.specs.Holding.{AreHearing}
+use Rattle.hk_run.specs.Playing.{HasPlayed}
+use Rattle.hk_run.specs.declared.run.Run.{Run}
+use Rattle.hk_run.proofs.Settling.{none_settled}
+
+pub one_more : {A : Type 0} (n : ℕ) (x : A) → replicate n x ++ x ∷ [] ≡ replicate (n + 1) x
+one_more n x = replicate-append-replicate n 1 x
+
+-- an empty catalogue is at the desk before the first command
+pub new_at_desk : (rules : Rules) (alone : Single) → alone ≡ new_single rules.limits → IsAtDesk rules (shelf_of alone) new_desk
+unfolding version
+new_at_desk rules alone is = subst (λ (s : Single). IsAtDesk rules (shelf_of s) new_desk) (sym is) (record { present = refl; staged = refl; base = refl; limits = refl })
+
+pub is_fixed : (r : RunRules) → IsFixed (rules_meant r)
+is_fixed r = record { block_size = refl; errors = refl; analysis = refl }
+
+pub opens : (r : RunRules) (run : Run) → RulesFit r → HasRead run.reader [] → limit_of run.reader ≡ r.bytes → stations_of run.reader ≡ r.stations
+    → AreHearing (rules_meant r) 0 run.stations.items (replicate r.stations unheard) → IsObeying (rules_meant r) run.operator (shelf_of run.catalogue) new_clerk new_desk
+    → HasPlayed (rules_meant r) run [] []
+unfolding arrivals pieces_within
+opens r run fits read limit stations hears obeys = record {
+  read = read;
+  limit = limit;
+  stations = stations;
+  no_fault = no_text r.stations r.bytes;
+  within = omega arith;
+  most = omega (arith, fits.bytes.1);
+  holds = record { hears = hears; obeys = obeys };
+  settled = none_settled (rules_meant r);
+}
+
+-- the rules of a run are such that stations can be made for
+pub is_set : (r : RunRules) → IsSetTo (rules_meant r) r.flips r.hop r.bytes
+is_set r = record { block_size = refl; analysis = refl; flips_are = refl; hop_is = refl; limit_is = refl }

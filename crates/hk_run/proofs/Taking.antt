@@ -1,0 +1,90 @@
+-- A byte of the input: what it leaves of what was played.
+use Rattle.std.proofs.Common.{◌≡◌, ℕ, ◌≤◌, List, [], ◌∷◌, ◌++◌, length, sym, ◌∙◌, ap, subst, arith, append-nil, Option, None}
+use Rattle.std.specs.Prelude.{flat_map}
+use Rattle.std.proofs.lemmas.List.Concat.{flat_map-append}
+use Rattle.hk_base.specs.Devices.{Wrote}
+use Rattle.hk_spec_streams.specs.Records.{input_met}
+use Rattle.hk_spec_streams.proofs.FirstFault.{fault_of-none}
+use Rattle.hk_base.specs.declared.plain.What.{What}
+use Rattle.hk_spec_lines.specs.Lines.{Printed, Replied, printed_text, reply_line}
+use Rattle.hk_spec_runs.specs.Desk.{Rules}
+use Rattle.hk_spec_runs.specs.Replay.{Scene}
+use Rattle.hk_records.specs.Reader.{HasRead, came_at, limit_of, stations_of}
+use Rattle.hk_records.specs.declared.reader.Came.{Came}
+use Rattle.hk_records.specs.declared.reader.RecordReader.{RecordReader}
+use Rattle.hk_report.specs.Fronts.{WroteFront}
+use Rattle.hk_player.specs.Playing.{Adds, AddsFront, Goes}
+use Rattle.hk_player.proofs.Steps.{Wrote-nothing}
+use Rattle.hk_words.specs.Orders.{rules_meant}
+use Rattle.hk_words.specs.declared.order.RunRules.{RunRules}
+use Rattle.hk_run.specs.Course.{scene_after, replay_course}
+use Rattle.hk_run.specs.Holding.{Holds}
+use Rattle.hk_run.specs.Playing.{HasPlayed, IsSettled, AddsScene, AddsSceneFront}
+use Rattle.hk_run.specs.declared.run.Run.{Run}
+use Rattle.hk_run.proofs.Printing.{goes}
+
+-- a run with the same parts holds the same
+pub held_by : (rules : Rules) (run run' : Run) (scene : Scene) → run'.stations ≡ run.stations → run'.operator ≡ run.operator → run'.catalogue ≡ run.catalogue
+    → Holds rules run scene → Holds rules run' scene
+held_by rules run run' scene stations operators catalogues h = record { hears = rw stations h.hears; obeys = rw (operators, catalogues) h.obeys }
+
+module _ (rules : Rules) (run : Run) (refused text : List ℕ) (byte : ℕ) (h : HasPlayed rules run refused text) where
+  -- what the reader tells, as the definitions have it
+  pub came_is : (told : Came) → told ≡ came_at (stations_of run.reader) (limit_of run.reader) (text ++ byte ∷ []) → came_at rules.stations rules.bytes (text ++ byte ∷ []) ≡ told
+  came_is told is =
+      ap (λ s. came_at s rules.bytes (text ++ byte ∷ [])) (sym h.stations) ∙ ap (λ l. came_at (stations_of run.reader) l (text ++ byte ∷ [])) (sym h.limit) ∙ sym is
+
+  module _ (reader : RecordReader) (read : HasRead reader (text ++ byte ∷ [])) (limit : limit_of reader ≡ limit_of run.reader) (stations : stations_of reader ≡ stations_of run.reader) where
+    within : length (text ++ byte ∷ []) ≤ rules.bytes
+    within = omega (arith, read.within, read.taken, limit, h.limit)
+
+    -- the run goes on with the scene of some list of refused commands
+    pub plays_on : (run' : Run) (refused' : List ℕ) (next : Scene) → input_met rules.stations rules.bytes (text ++ byte ∷ []) ≡ None → run'.reader ≡ reader → scene_after rules refused' (text ++ byte ∷ []) ≡ next
+        → IsSettled rules refused' (text ++ byte ∷ []) → Holds rules run' next → HasPlayed rules run' refused' (text ++ byte ∷ [])
+    plays_on run' refused' next none readers is settled holds = record {
+      read = rw readers read;
+      limit = ap limit_of readers ∙ limit ∙ h.limit;
+      stations = ap stations_of readers ∙ stations ∙ h.stations;
+      no_fault = fault_of-none (input_met rules.stations rules.bytes) text byte h.no_fault none;
+      within = within;
+      most = h.most;
+      holds = subst (λ (s : Scene). Holds rules run' s) (sym is) holds;
+      settled = settled;
+    }
+
+    -- and prints on
+    pub goes_on : (refused' : List ℕ) → input_met rules.stations rules.bytes (text ++ byte ∷ []) ≡ None → Goes (replay_course rules) refused' (text ++ byte ∷ [])
+    goes_on refused' none = goes rules refused' (text ++ byte ∷ []) (fault_of-none (input_met rules.stations rules.bytes) text byte h.no_fault none)
+
+  prints_more : (refused' : List ℕ) (next : Scene) (more : List Printed) → scene_after rules refused' (text ++ byte ∷ []) ≡ next → next.printed ≡ (scene_after rules refused text).printed ++ more
+      → (replay_course rules).printed refused' (text ++ byte ∷ []) ≡ (replay_course rules).printed refused text ++ flat_map printed_text more
+  prints_more refused' next more is prints =
+      ap (λ (s : Scene). flat_map printed_text s.printed) is ∙ ap (flat_map printed_text) prints
+      ∙ flat_map-append printed_text (scene_after rules refused text).printed more
+
+  pub adds_all : (refused' : List ℕ) (next : Scene) (w y : Option (List ℕ)) → scene_after rules refused' (text ++ byte ∷ []) ≡ next → AddsScene (scene_after rules refused text) next w y
+      → Adds (replay_course rules) refused text refused' (text ++ byte ∷ []) w y
+  adds_all refused' next w y is adds = (flat_map printed_text adds.0, prints_more refused' next adds.0 is adds.1, adds.2)
+
+  pub adds_some : (refused' : List ℕ) (next : Scene) (w y : Option (List ℕ)) → scene_after rules refused' (text ++ byte ∷ []) ≡ next → AddsSceneFront (scene_after rules refused text) next w y
+      → AddsFront (replay_course rules) refused text refused' (text ++ byte ∷ []) w y
+  adds_some refused' next w y is adds =
+      let front = adds.2 in
+      (front.0, front.1, prints_more refused' next adds.0 is adds.1 ∙ ap (λ t. (replay_course rules).printed refused text ++ t) front.2, front.4)
+
+  pub adds_none : (next : Scene) (w : Option (List ℕ)) → scene_after rules refused (text ++ byte ∷ []) ≡ next → next.printed ≡ (scene_after rules refused text).printed
+      → Adds (replay_course rules) refused text refused (text ++ byte ∷ []) w w
+  adds_none next w is same = adds_all refused next w w is ([], same ∙ sym (append-nil (scene_after rules refused text).printed), Wrote-nothing w)
+
+-- the line of a reply, as what is printed for it
+pub written_as : (n m : ℕ) (what : What) (u v : Option (List ℕ)) → n ≡ m → Wrote (reply_line n what) u v → Wrote (flat_map printed_text (Replied m what ∷ [])) u v
+written_as n m what u v same wrote =
+    subst (λ (t : List ℕ). Wrote t u v) (ap (λ k. reply_line k what) same ∙ sym (append-nil (reply_line m what))) wrote
+
+pub front_as : (n m : ℕ) (what : What) (u v : Option (List ℕ)) → n ≡ m → WroteFront (reply_line n what) u v → WroteFront (flat_map printed_text (Replied m what ∷ [])) u v
+front_as n m what u v same front =
+    subst (λ (t : List ℕ). WroteFront t u v) (ap (λ k. reply_line k what) same ∙ sym (append-nil (reply_line m what))) front
+
+-- the run's rules are those that it had
+pub by_rules : (rules : RunRules) (run : Run) (refused text : List ℕ) → run.rules ≡ rules → HasPlayed (rules_meant rules) run refused text → HasPlayed (rules_meant run.rules) run refused text
+by_rules rules run refused text same h = subst (λ (r : RunRules). HasPlayed (rules_meant r) run refused text) (sym same) h

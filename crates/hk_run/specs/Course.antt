@@ -1,0 +1,77 @@
+-- What a replay makes of an input, byte after byte.
+use Rattle.std.specs.Prelude.{ℕ, Bool, true, false, ◌&&◌, List, fold, flat_map, length, Some, None, is_none}
+use Rattle.std.specs.Option.{option_map_or}
+use Rattle.std.specs.List.{enumerate_from, list_all}
+use Rattle.hk_base.specs.declared.plain.Trouble.TheVariants.{BadRecord}
+use Rattle.hk_base.specs.declared.plain.End.{End}
+use Rattle.hk_base.specs.declared.plain.End.TheVariants as ends
+use Rattle.hk_base.specs.declared.plain.OpEnd.{OpEnd}
+use Rattle.hk_base.specs.declared.plain.OpEnd.TheVariants as op_ends
+use Rattle.hk_spec_streams.specs.Blocks.{blocks}
+use Rattle.hk_spec_streams.specs.Station.{station_wrong}
+use Rattle.hk_spec_streams.specs.Records.{arrivals, input_met, open_record}
+use Rattle.hk_spec_lines.specs.Lines.{printed_text, station_line}
+use Rattle.hk_spec_runs.specs.Desk.{Rules}
+use Rattle.hk_spec_runs.specs.Replay.{Listener, Scene, opening, arrived, summary, end_of}
+use Rattle.hk_spec_runs.specs.Outcome.{has_ended}
+use Rattle.hk_player.specs.Course.{Course}
+use Rattle.hk_player.specs.declared.player.Taken.{Taken}
+use Rattle.hk_player.specs.declared.player.Taken.TheVariants as takens
+use Rattle.hk_station.specs.declared.station.Progress.{Progress}
+use Rattle.hk_station.specs.declared.station.Progress.TheVariants.{Going, Over}
+
+-- the scene after all bytes of an input without a fault
+abbrev pub scene_after : Rules → List ℕ → List ℕ → Scene
+scene_after rules refused text = fold (arrived rules refused) (opening rules) (arrivals text)
+
+abbrev pub replay_course : Rules → Course
+replay_course rules = record {
+  most = rules.bytes;
+  met = input_met rules.stations rules.bytes;
+  printed = λ refused text. flat_map printed_text (scene_after rules refused text).printed;
+  ending = λ text. option_map_or (λ r. Some (BadRecord r.place)) (open_record text) None;
+  finale = λ refused text. summary rules (scene_after rules refused text);
+  in_order = λ refused text. has_ended rules (scene_after rules refused text);
+}
+
+-- the summary lines of listeners, numbered from a number on
+abbrev pub listener_line : Rules → ℕ × Listener → List ℕ
+listener_line rules p = station_line p.0 (length (blocks rules.setting p.1.used)) p.1.version (end_of rules p.1)
+
+abbrev pub lines_from : Rules → ℕ → List Listener → List ℕ
+lines_from rules n listeners = flat_map (listener_line rules) (enumerate_from n listeners)
+
+abbrev pub station_lines : Rules → List Listener → List ℕ
+station_lines rules listeners = lines_from rules 0 listeners
+
+abbrev pub is_ended : End → Bool
+is_ended ends.Ended = true
+is_ended (ends.Wire fault) = false
+is_ended (ends.FenceAhead asked found) = false
+is_ended ends.ReadFault = false
+is_ended ends.SinkFault = false
+is_ended ends.GateFault = false
+
+abbrev pub operator_ended : OpEnd → Bool
+operator_ended op_ends.Ended = true
+operator_ended (op_ends.Wire fault) = false
+operator_ended op_ends.ReadFault = false
+operator_ended op_ends.SinkFault = false
+
+-- a listener that isn't over, and whose bytes may end where they end
+abbrev pub is_in_order : Rules → Listener → Bool
+is_in_order rules l = is_none l.end && is_none (station_wrong rules.bytes l.used)
+
+-- all of them are such
+abbrev pub all_ended : Rules → List Listener → Bool
+all_ended rules listeners = list_all (λ l. is_none l.end) listeners && list_all (λ l. is_none (station_wrong rules.bytes l.used)) listeners
+
+-- what a station's progress is to the run
+abbrev pub taken_of : Progress → Taken
+taken_of (Over ends.SinkFault) = takens.SinkFault
+taken_of (Over ends.Ended) = takens.Going
+taken_of (Over (ends.Wire fault)) = takens.Going
+taken_of (Over (ends.FenceAhead asked found)) = takens.Going
+taken_of (Over ends.ReadFault) = takens.Going
+taken_of (Over ends.GateFault) = takens.Going
+taken_of Going = takens.Going

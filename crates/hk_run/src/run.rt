@@ -1,0 +1,186 @@
+// A run: stations and operator over one catalogue.
+ghost use Rattle.std.specs.Prelude.{◌≡◌, ◌≤◌, ◌<◌, ◌+◌, ◌⊎◌, ◌∷◌, [], None, ℕ, List, IfOk, IfSome, length};
+ghost use Rattle.hk_base.specs.Devices.{Rose};
+ghost use Rattle.hk_spec_streams.specs.Operator.{Command, Publish, commands};
+ghost use Rattle.hk_spec_streams.specs.Records.{ForStation};
+ghost use Rattle.hk_spec_runs.specs.Desk.{IsReply, after};
+ghost use Rattle.hk_spec_runs.specs.Replay.{arrived};
+ghost use Rattle.hk_operator.specs.Obeying.{clerk_after, new_commands};
+ghost use Rattle.hk_words.specs.Orders.{rules_meant, RulesFit};
+ghost use Rattle.hk_run.specs.Course.{operator_ended, taken_of};
+
+use crate::opening::open_stations;
+use crate::summary::write_stations;
+use hk_base::{End, NoMemory, OpEnd, Reason, Reply, Sink, Steps, What};
+use hk_block::Scratch;
+use hk_operator::{Done, Operator};
+use hk_player::{Finished, Player, Taken};
+use hk_probe::Alone;
+use hk_records::{Came, RecordReader};
+use hk_report::{write_operator, write_reply};
+use hk_station::{Progress, Station};
+use hk_words::RunRules;
+use std::alloc::Global;
+use std::sync::ledger::Ledger;
+
+/// Stations and an operator over one catalogue, as far as the input was played.
+#[derive(Drop)]
+pub struct Run {
+    rules: RunRules,
+    reader: RecordReader,
+    stations: Vec<Station>,
+    operator: Operator,
+    catalogue: Alone,
+    scratch: Scratch,
+    ghost room: { catalogue.limits.positions ≤ scratch.room },
+}
+
+// What a station's progress is to the run, which goes on where a station is over.
+fn taken_of(progress: Progress) -> Taken
+    ensures { result ≡ taken_of progress }
+{
+    match progress {
+        Progress::Over(End::SinkFault) => Taken::SinkFault,
+        Progress::Going | Progress::Over(_) => Taken::Going,
+    }
+}
+
+fn is_in_order(end: OpEnd) -> bool
+    ensures { result ≡ operator_ended end }
+{
+    matches!(end, OpEnd::Ended)
+}
+
+impl Run {
+    ghost use Rattle.hk_run.specs.Playing.{HasPlayed};
+    ghost use Rattle.hk_run.specs.Holding.{ForHeld, Holds, with_clerk, with_desk};
+    ghost use Rattle.hk_run.specs.Playing.{AddsScene, AddsSceneFront};
+
+    /// A run before its first byte. It takes all memory that its streams and looks need.
+    pub fn new(alloc: Global, rules: &RunRules) -> Result<Run, NoMemory>
+        requires fits { RulesFit rules.now }
+        ensures new { IfOk result (λ run. HasPlayed (rules_meant rules.now) run [] []) }
+        ensures set { IfOk result (λ run. run.rules ≡ rules.now) }
+    {
+        let stations = open_stations(alloc, rules)?;
+        let operator = Operator::new(alloc, rules.bytes, rules.positions)?;
+        let catalogue = Alone::new(alloc, rules.songs, rules.positions, rules.versions)?;
+        let scratch = Scratch::new(alloc, rules.positions)?;
+        Ok(Run {
+            rules: *rules,
+            reader: RecordReader::new(rules.stations, rules.bytes),
+            stations,
+            operator,
+            catalogue,
+            scratch,
+        })
+    }
+
+    // A byte of a station's stream. A station that is over, or isn't there, skips it.
+    fn hear<K: Sink, L: Ledger>(
+        &mut self,
+        number: u8,
+        byte: u8,
+        out: &mut K,
+        steps: &mut Steps<L>,
+    ) -> Taken
+        ensures never_stops { (result ≡ Taken.Going) ⊎ (result ≡ Taken.SinkFault) }
+        ensures going { result ≡ Taken.Going → ForHeld self.old (λ rules scene. (refused : List ℕ) →
+            Holds rules self.new (arrived rules refused scene (ForStation number byte))
+            × AddsScene scene (arrived rules refused scene (ForStation number byte)) (K.written out.old) (K.written out.new)) }
+        ensures torn { result ≡ Taken.SinkFault → ForHeld self.old (λ rules scene. (refused : List ℕ) →
+            AddsSceneFront scene (arrived rules refused scene (ForStation number byte)) (K.written out.old) (K.written out.new)) }
+        ensures cause { result ≡ Taken.SinkFault → Rose (K.faults out.old) (K.faults out.new) }
+        ensures never_falls { K.faults out.old ≤ K.faults out.new }
+        ensures reader_stays { self.new.reader ≡ self.old.reader }
+        ensures rules_stay { self.new.rules ≡ self.old.rules }
+    {
+        if number as usize >= self.stations.len() {
+            return Taken::Going;
+        }
+        let station = &mut self.stations[number as usize];
+        if station.end().is_some() {
+            return Taken::Going;
+        }
+        taken_of(station.hear(byte, &mut self.catalogue, &mut self.scratch, out, steps))
+    }
+
+    // A byte of the operator's stream: the reply to the command that it ends.
+    fn obey(&mut self, byte: u8) -> Option<Reply>
+        ensures quiet { result ≡ None → ForHeld self.old (λ rules scene. (new_commands rules scene.clerk byte ≡ [])
+            × Holds rules self.new (with_clerk scene (clerk_after rules scene.clerk byte))) }
+        ensures replies { IfSome result (λ reply. ForHeld self.old (λ rules scene. (command : Command) × (new_commands rules scene.clerk byte ≡ command ∷ [])
+            × (reply.number ≡ length (commands scene.clerk.used) + 1) × IsReply rules scene.desk command reply.what
+            × Holds rules self.new (with_desk (with_clerk scene (clerk_after rules scene.clerk byte)) (after rules scene.desk command reply.what)))) }
+        ensures reader_stays { self.new.reader ≡ self.old.reader }
+        ensures rules_stay { self.new.rules ≡ self.old.rules }
+    {
+        match self.operator.push(byte, &mut self.catalogue) {
+            Done::More | Done::Over(_) => None,
+            Done::Reply(reply) => Some(reply),
+            Done::Publish(number) => Some(Reply {
+                number,
+                what: self.publish(),
+            }),
+        }
+    }
+
+    // Publishes what is staged, or tells that no version is left.
+    fn publish(&mut self) -> What
+        ensures published { ForHeld self.old (λ rules scene. IsReply rules scene.desk Publish result
+            × Holds rules self.new (with_desk scene (after rules scene.desk Publish result))) }
+        ensures reader_stays { self.new.reader ≡ self.old.reader }
+        ensures rules_stay { self.new.rules ≡ self.old.rules }
+    {
+        match self.catalogue.publish() {
+            Ok(version) => What::Published(version),
+            Err(_) => What::Refused(Reason::VersionsFull),
+        }
+    }
+}
+
+impl Player for Run {
+    ghost use Rattle.hk_run.specs.Course.{replay_course};
+    ghost use Rattle.hk_run.specs.Playing.{HasPlayed};
+
+    ghost course = { λ run. replay_course (rules_meant run.rules) };
+
+    ghost has_played = { λ run refused text. HasPlayed (rules_meant run.rules) run refused text };
+
+    fn take<K: Sink, L: Ledger>(&mut self, byte: u8, out: &mut K, steps: &mut Steps<L>) -> Taken {
+        match self.reader.push(byte) {
+            Came::Head => Taken::Going,
+            Came::Station { number, byte } => self.hear(number, byte, out, steps),
+            Came::Operator(byte) => match self.obey(byte) {
+                None => Taken::Going,
+                Some(reply) => match write_reply(out, &reply) {
+                    Ok(()) => Taken::Going,
+                    Err(_) => Taken::SinkFault,
+                },
+            },
+            Came::Bad(trouble) => Taken::Stopped(trouble),
+        }
+    }
+
+    fn finish<K: Sink>(&mut self, out: &mut K) -> Finished {
+        if let Err(trouble) = self.reader.finish() {
+            return Finished::Wrong(trouble);
+        }
+        let stations_ended = match write_stations(self.stations.as_mut_slice(), out) {
+            Ok(ended) => ended,
+            Err(_) => return Finished::Torn,
+        };
+        let end = self.operator.finish();
+        match write_operator(
+            out,
+            self.operator.commands(),
+            self.catalogue.version(),
+            &end,
+        ) {
+            Ok(()) => Finished::Whole(stations_ended & is_in_order(end)),
+            Err(_) => Finished::Torn,
+        }
+    }
+
+    ghost in_form = { λ run refused text h. (h.no_fault, h.within, h.most) };
+}
