@@ -6,7 +6,7 @@
 PROGRAM is hkreplay, and crates/hkreplay/out/hkreplay where none is given (`rt ci` builds it there). The song is six seconds
 of four voices, made of whole numbers alone. Its prints become recording 7. The station sends them from print 64 on, with
 three wrong bits in seven of eight words. The script writes the sound and the input beside each other into a folder of its own
-and prints what the program reports.
+and prints what the program reports, which is in find_a_song.report.
 """
 
 import os
@@ -70,16 +70,20 @@ def packets(prints):
         yield struct.pack(">BH", 1, len(data)) + data
 
 
+def input_of(words):
+    """The song's words as recording 7, a publish, and a station that plays them."""
+    operator = b"HKO1" + command(1, struct.pack(f">I{len(words)}I", 7, *words)) + command(6, b"")
+    station = b"HKS1\0\1" + b"".join(packets(list(noisy(words[64:]))))
+    return b"".join(records(b"O", operator)) + b"".join(records(b"S\0", station))
+
+
 def main():
     here = os.path.dirname(os.path.dirname(os.path.abspath(__file__)))
     program = sys.argv[1] if len(sys.argv) > 1 else os.path.join(here, "crates/hkreplay/out/hkreplay")
     sound = song()
     lines = subprocess.run([program, "print", "--channels", "1", "--factor", "8"], input=sound, stdout=subprocess.PIPE, check=True)
     words = [int(line.split()[1], 16) for line in lines.stdout.decode().splitlines()]
-    added = command(1, struct.pack(f">I{len(words)}I", 7, *words))
-    operator = b"HKO1" + added + command(6, b"")
-    station = b"HKS1\0\1" + b"".join(packets(list(noisy(words[64:]))))
-    given = b"".join(records(b"O", operator)) + b"".join(records(b"S\0", station))
+    given = input_of(words)
     folder = tempfile.mkdtemp(prefix="find_a_song.")
     for name, data in (("song.raw", sound), ("song.prints", lines.stdout), ("song.input", given)):
         with open(os.path.join(folder, name), "wb") as file:

@@ -2,13 +2,16 @@
 """What `hkreplay replay` prints and its status, straight from the formats and definitions, for any words and any input.
 
     replay_model.py replay [--stations N] [--flips K] [--hop H] [--songs S] [--positions P] [--versions V] [--bytes B] < input
-    replay_model.py --self-test            checks this model against the worked examples whose outcome is known by hand
+    replay_model.py --no-memory 1,6 replay .. < input      the same, where commands 1 and 6 are refused for want of memory
+    replay_model.py --self-test            checks this model against the worked examples whose outcome is known by hand,
+                                           and against the reports in examples/
     replay_model.py --self-test --long     also the minute of sound, which takes a minute or two
 
 It works on whole texts where the program works byte by byte: first the records give each stream's whole bytes, then each
 stream gives the places at which something is complete in it, and then these events are gone through in the order of the
-input. A block is compared with every window of every song. It knows nothing of want of memory and of failing devices,
-so `refused no-memory` and the statuses 4, 5 and 6 never come from it. It shares no line with the crates.
+input. A block is compared with every window of every song. It can be told which commands are refused for want of memory;
+it knows nothing else of memory, and nothing of failing devices: the statuses 4, 5 and 6 never come from it. It shares no
+line with the crates.
 It is slow: sound costs about a hundredth of a second for each 64 working samples.
 """
 
@@ -20,7 +23,11 @@ import struct
 import sys
 from array import array
 
-sys.path.insert(0, os.path.dirname(os.path.abspath(__file__)))
+TOOLS = os.path.dirname(os.path.abspath(__file__))
+EXAMPLES = os.path.join(os.path.dirname(TOOLS), "examples")
+sys.path[:0] = [TOOLS, EXAMPLES]
+import find_a_song  # noqa: E402
+import small_day  # noqa: E402
 from print_sound import decimated_fast, made, mono  # noqa: E402
 from sound_vectors import C, S, SAMPLES, draws, energies, real, transform, windowed  # noqa: E402
 
@@ -300,13 +307,33 @@ def song_words(payload):
     return struct.unpack(f">{len(payload) // 4}I", payload)
 
 
+class OpenSong:
+    """The song that is open: its id, its form, and its sound so far."""
+
+    def __init__(self, payload):
+        self.number, self.channels, self.factor = int.from_bytes(payload[:4], "big"), payload[4], payload[5]
+        self.audio = bytearray()
+
+    def words(self):
+        # the masks aren't used, so no bit need be weak
+        return tuple(word for word, _ in sound_prints(self.channels, self.factor, 0, bytes(self.audio)))
+
+
 class Desk:
     """The operator's state: the published songs, the songs with the staged edits done, the open song."""
 
     def __init__(self, chosen):
         self.songs, self.positions, self.versions = chosen["--songs"], chosen["--positions"], chosen["--versions"]
-        self.flips = chosen["--flips"]
         self.published, self.present, self.version, self.open = {}, {}, 0, None
+
+    def song_for(self, kind, payload):
+        """The id and the words that an add or a close would add, or None."""
+        if kind == 1:
+            number, *words = song_words(payload)
+            return number, tuple(words)
+        if kind == 4 and self.open is not None:
+            return self.open.number, self.open.words()
+        return None
 
     def refusal_of_add(self, number, words):
         if number in self.present:
@@ -319,50 +346,42 @@ class Desk:
             return "positions-full"
         return None
 
-    def add(self, number, words):
-        refusal = self.refusal_of_add(number, words)
-        if refusal is None:
-            self.present = dict(self.present)
-            self.present[number] = words
-        return refusal
+    def refusal(self, kind, payload, song):
+        """The first reason to refuse a command, memory aside, or None."""
+        if kind in (3, 4) and self.open is None:
+            return "no-song-open"
+        if kind in (1, 4):
+            return self.refusal_of_add(*song)
+        if kind == 2 and self.open is not None:
+            return "song-open"
+        if kind == 5 and int.from_bytes(payload, "big") not in self.present:
+            return "unknown"
+        if kind == 6 and self.version == self.versions:
+            return "versions-full"
+        return None
 
-    def answer(self, kind, payload):
-        refusal = None
-        if kind == 1:
-            number, *words = song_words(payload)
-            refusal = self.add(number, tuple(words))
+    def answer(self, kind, payload, no_memory=False):
+        """The answer to a command; with `no_memory` it is refused for want of memory, if not for another reason."""
+        song = self.song_for(kind, payload)
+        reason = self.refusal(kind, payload, song) or ("no-memory" if no_memory else None)
+        if kind == 4 or (kind == 3 and reason == "no-memory"):
+            self.open = None
+        if reason is not None:
+            return f"refused {reason}"
+        if kind in (1, 4):
+            self.present = {**self.present, song[0]: song[1]}
         elif kind == 2:
-            if self.open is not None:
-                refusal = "song-open"
-            else:
-                self.open = (int.from_bytes(payload[:4], "big"), payload[4], payload[5], bytearray())
+            self.open = OpenSong(payload)
         elif kind == 3:
-            if self.open is None:
-                refusal = "no-song-open"
-            else:
-                self.open[3].extend(payload)
-        elif kind == 4:
-            if self.open is None:
-                refusal = "no-song-open"
-            else:
-                number, channels, factor, audio = self.open
-                # the masks aren't used, so no bit need be weak
-                refusal = self.add(number, tuple(word for word, _ in sound_prints(channels, factor, 0, bytes(audio))))
-                self.open = None
+            self.open.audio.extend(payload)
         elif kind == 5:
-            number = int.from_bytes(payload, "big")
-            if number in self.present:
-                self.present = {other: song for other, song in self.present.items() if other != number}
-            else:
-                refusal = "unknown"
+            gone = int.from_bytes(payload, "big")
+            self.present = {number: words for number, words in self.present.items() if number != gone}
         else:
-            if self.version == self.versions:
-                refusal = "versions-full"
-            else:
-                self.version += 1
-                self.published = self.present
-                return f"published {self.version}"
-        return "ok" if refusal is None else f"refused {refusal}"
+            self.version += 1
+            self.published = self.present
+            return f"published {self.version}"
+        return "ok"
 
 
 # Matching
@@ -397,8 +416,8 @@ def matches(prints, songs):
 # The whole
 
 
-def replay(chosen, data):
-    """The status and the text."""
+def replay(chosen, data, no_memory=()):
+    """The status and the text, where the commands of these numbers are refused for want of memory."""
     streams, operator, trouble = records(data, chosen["--stations"], chosen["--bytes"])
     events, ends = [], []
     for s, stream in enumerate(streams):
@@ -414,7 +433,7 @@ def replay(chosen, data):
     for _, s, what in events:
         if s is None:
             replies += 1
-            lines.append(f"O {replies} {desk.answer(*what)}")
+            lines.append(f"O {replies} {desk.answer(*what, replies in no_memory)}")
         elif over[s]:
             continue
         elif what[0] == "fence":
@@ -437,12 +456,12 @@ def replay(chosen, data):
     return 0 if fine else 3, "".join(line + "\n" for line in lines)
 
 
-def outcome(words, data):
+def outcome(words, data, no_memory=()):
     """The status, the text on standard output and that on standard error."""
     chosen = settings(words)
     if chosen is None:
         return 2, "", BAD_USAGE
-    return *replay(chosen, data), ""
+    return *replay(chosen, data, no_memory), ""
 
 
 # Making inputs
@@ -539,6 +558,24 @@ def made_input(seed, stations, flips):
     return out
 
 
+FIFTEEN_WORDS = "replay --songs 2 --positions 512 --versions 2"
+
+
+def fifteen_commands():
+    """Commands of which most are refused, each with its answer under the options of FIFTEEN_WORDS."""
+    ramp = range(256)
+    return [(add(1, ramp), "ok"), (add(1, ramp), "refused duplicate"), (add(2, range(255)), "refused short"),
+            (withdraw(9), "refused unknown"), (add(2, range(257)), "refused positions-full"), (add(2, ramp), "ok"),
+            (add(3, ramp), "refused songs-full"), (CLOSE, "refused no-song-open"), (open_song(3, 1, 1), "ok"),
+            (open_song(4, 1, 1), "refused song-open"), (audio(b""), "ok"), (CLOSE, "refused short"),
+            (PUBLISH, "published 1"), (PUBLISH, "published 2"), (PUBLISH, "refused versions-full")]
+
+
+def fifteen_commands_input():
+    """These commands, and a station that sends its hello alone."""
+    return record_o(b"HKO1" + b"".join(sent for sent, _ in fifteen_commands())) + record_s(0, hello(0, 1))
+
+
 # The self-test
 
 
@@ -570,8 +607,51 @@ class Checks:
         self.equal(what, (found[0], [line for line in found[1].splitlines() if line.startswith("S ")]), (status, lines))
 
 
+def report_of(name):
+    """The lines of a report in examples/."""
+    with open(os.path.join(EXAMPLES, name + ".report")) as file:
+        return file.read().splitlines()
+
+
+def check_examples(check):
+    """The inputs in examples/ give the reports that stand beside them."""
+    with open(os.path.join(EXAMPLES, "first.input"), "rb") as file:
+        check.run("examples/first", "replay", file.read(), 0, report_of("first"))
+    check.run("examples/small_day", "replay --stations 2", b"".join(small_day.day()), 0, report_of("small_day"))
+    words = [word for word, _ in sound_prints(1, 8, 4, find_a_song.song())]
+    check.run("examples/find_a_song", "replay", find_a_song.input_of(words), 0, report_of("find_a_song"))
+
+
+def check_memory(check):
+    """What follows where commands are refused for want of memory."""
+    with open(os.path.join(EXAMPLES, "first.input"), "rb") as file:
+        first = file.read()
+    for number, lines in (
+        (1, ["O 1 refused no-memory", "O 2 published 1", "S 0 B 0 G 0 W 0 V 1: none", "T S 0 1 1 ended", "T O 2 1 ended"]),
+        (2, ["O 1 ok", "O 2 refused no-memory", "S 0 B 0 G 0 W 0 V 0: none", "T S 0 1 0 ended", "T O 2 0 ended"]),
+        (3, report_of("first")),
+    ):
+        text = "".join(line + "\n" for line in lines)
+        check.equal(f"the first input without memory for {number}", outcome(["replay"], first, {number}), (0, text, ""))
+    refused = "refused no-memory"
+    for number, changed in (
+        (1, {1: refused, 2: "ok"}),  # so the second command adds the song
+        (2, {}),  # a duplicate anyway
+        (6, {6: refused, 7: "ok", 12: "refused duplicate"}),  # so song 3 has room, and is there when song 3 closes
+        (9, {9: refused, 10: "ok"}),  # so the tenth command opens a song
+        (11, {11: refused, 12: "refused no-song-open"}),  # so the song is given up
+        (13, {13: refused, 14: "published 1", 15: "published 2"}),
+    ):
+        answers = [changed.get(n + 1, answer) for n, (_, answer) in enumerate(fifteen_commands())]
+        lines = [f"O {n + 1} {answer}" for n, answer in enumerate(answers)] + ["T S 0 0 0 ended", "T O 15 2 ended"]
+        found = outcome(FIFTEEN_WORDS.split(), fifteen_commands_input(), {number})
+        check.equal(f"the fifteen commands without memory for {number}", found, (0, "".join(line + "\n" for line in lines), ""))
+
+
 def self_test(long):
     check = Checks()
+    check_examples(check)
+    check_memory(check)
     ramp = list(range(256))
     op = b"HKO1" + add(7, ramp) + PUBLISH
     station = hello(0, 1) + packet(1, prints_of(ramp))
@@ -629,13 +709,8 @@ def self_test(long):
     check.equal("silent prints, a sample fewer", sound_prints(1, 1, 4, nothing[2:]), [(0, 15)] * 255)
     check.equal("silent prints without weak bits", sound_prints(1, 1, 0, nothing), [(0, 0)] * 256)
 
-    commands = [(add(1, ramp), "ok"), (add(1, ramp), "refused duplicate"), (add(2, ramp[:255]), "refused short"),
-                (withdraw(9), "refused unknown"), (add(2, range(257)), "refused positions-full"), (add(2, ramp), "ok"),
-                (add(3, ramp), "refused songs-full"), (CLOSE, "refused no-song-open"), (open_song(3, 1, 1), "ok"),
-                (open_song(4, 1, 1), "refused song-open"), (audio(b""), "ok"), (CLOSE, "refused short"),
-                (PUBLISH, "published 1"), (PUBLISH, "published 2"), (PUBLISH, "refused versions-full")]
-    data = record_o(b"HKO1" + b"".join(sent for sent, _ in commands)) + record_s(0, hello(0, 1))
-    check.run("each refusal", "replay --songs 2 --positions 512 --versions 2", data, 0,
+    commands, data = fifteen_commands(), fifteen_commands_input()
+    check.run("each refusal", FIFTEEN_WORDS, data, 0,
               [f"O {n + 1} {text}" for n, (_, text) in enumerate(commands)] + ["T S 0 0 0 ended", "T O 15 2 ended"])
     check.has("a fence ahead", "replay", record_s(0, hello(0, 1) + fence(1)), 3, ["T S 0 0 0 fence-ahead 1 0"])
     data = record_o(b"HKO1" + PUBLISH) + record_s(0, hello(0, 1) + fence(1) + packet(1, prints_of(ramp)))
@@ -718,7 +793,11 @@ def self_test(long):
 def main():
     if sys.argv[1:2] == ["--self-test"]:
         sys.exit(self_test("--long" in sys.argv[2:]))
-    status, text, error = outcome(sys.argv[1:], sys.stdin.buffer.read())
+    words, no_memory = sys.argv[1:], set()
+    if words[:1] == ["--no-memory"]:
+        no_memory = {int(number) for number in words[1].split(",")}
+        words = words[2:]
+    status, text, error = outcome(words, sys.stdin.buffer.read(), no_memory)
     sys.stdout.write(text)
     sys.stderr.write(error)
     sys.exit(status)
