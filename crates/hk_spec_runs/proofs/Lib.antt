@@ -1,0 +1,3 @@
+mod SceneEnds
+mod LastLines
+pub mod EndsTold
