@@ -10,10 +10,6 @@ use Rattle.hk_base.specs.declared.memory.MemorySink.{MemorySink}
 abbrev pub bytes_left : MemorySource → List ℕ
 bytes_left source = drop source.at source.bytes.items
 
--- the number of a source's next read
-abbrev pub next_read : MemorySource → ℕ
-next_read source = source.reads
-
 -- the next read is one of those that are to fail
 abbrev pub read_fails : MemorySource → Bool
 read_fails source = list_any (λ n. n == source.reads) source.failing.items
@@ -35,10 +31,6 @@ IsNewSource bytes cuts failing source =
 -- the bytes that a sink was given
 abbrev pub bytes_written : MemorySink → List ℕ
 bytes_written sink = sink.bytes.items
-
--- how many bytes a sink has room for, all in all
-abbrev pub whole_room : MemorySink → ℕ
-whole_room sink = sink.room
 
 -- the next write is one of those that are to fail, or there is no room
 abbrev pub write_fails : MemorySink → Bool

@@ -56,7 +56,7 @@ pub enum WireFault {
     TooLong(u64),
 }
 
-/// How a station ended.
+/// How a station ended. `FenceAhead` has the version that a fence asked for, and the one that its look found.
 #[derive(Clone, Copy, Debug, PartialEq, Eq)]
 pub enum End {
     Ended,

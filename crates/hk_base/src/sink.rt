@@ -4,6 +4,7 @@ ghost use Rattle.hk_base.specs.Devices.{Rose, Wrote};
 
 use crate::Failed;
 
+/// What takes bytes: standard output, a file, a list in memory. It counts the writes that failed.
 pub trait Sink {
     /// All that was written, where the object tells it.
     ghost written: { Self → Option (List ℕ) };

@@ -4,6 +4,7 @@ ghost use Rattle.hk_base.specs.Devices.{Rose, IfBytes, OnEnd, OnFailed, OnNoFail
 
 use crate::Got;
 
+/// What gives bytes in order: standard input, a file, a list in memory. It counts the reads that failed.
 pub trait Source {
     /// The bytes that are left, where the object tells them.
     ghost left: { Self → Option (List ℕ) };

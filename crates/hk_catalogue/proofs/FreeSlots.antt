@@ -4,10 +4,6 @@ use Rattle.std.specs.List.{All}
 use Rattle.std.proofs.lemmas.Bool.{cases_lt}
 use Rattle.std.proofs.lemmas.List.{get_or_append_left, get_or_push, length_push, get_or_default}
 use Rattle.hk_catalogue.specs.CatalogueInside.{AreDistinct}
-use Rattle.hk_catalogue.specs.Shelves.{IsCounting}
-
-pub counting_distinct : (xs : List ℕ) → IsCounting xs → AreDistinct xs
-counting_distinct xs counting i j other low_i low_j = λ same. other (sym (counting i 0 low_i) ∙ same ∙ counting j 0 low_j)
 
 front_at : (xs : List ℕ) (x i : ℕ) → i < length xs → get_or (xs ++ x ∷ []) i 0 ≡ get_or xs i 0
 front_at xs x i low = get_or_append_left xs (x ∷ []) 0 i low

@@ -18,9 +18,7 @@ use Rattle.hk_spec_runs.specs.Desk.{Rules, Desk, Recording, present, add_refusal
 use Rattle.hk_block.specs.Looker.{ShelfView}
 use Rattle.hk_catalogue.specs.Refusals.{lengths_of, add_tests, withdraw_tests, answered, reason_of, has_id}
 use Rattle.hk_catalogue.specs.Register.{AreRulesOf}
-use Rattle.hk_catalogue.specs.Shelf.{register_of, with_change, with_staged}
-use Rattle.hk_catalogue.specs.declared.edit.Edit.{Edit}
-use Rattle.hk_catalogue.specs.declared.edit.Edit.TheVariants.{Add, Withdraw, Seal}
+use Rattle.hk_catalogue.specs.Shelf.{register_of, with_change}
 use Rattle.hk_catalogue.specs.Shelves as shelves
 use Rattle.hk_catalogue.specs.declared.refused.Refused as refusing
 use Rattle.hk_catalogue.specs.declared.refused.Refused.TheVariants as refused
@@ -83,11 +81,6 @@ withdraw_reasons rules view desk id at =
 -- what is published stays
 pub stays : (view : ShelfView) → StaysPublished view view
 stays view = record { base = refl; limits = refl; journal = refl; home = refl }
-
-pub staged_stays : (view : ShelfView) (edit : Edit) → StaysPublished view (with_staged view edit)
-staged_stays view (Add song) = record { base = refl; limits = refl; journal = refl; home = refl }
-staged_stays view (Withdraw id) = record { base = refl; limits = refl; journal = refl; home = refl }
-staged_stays view Seal = stays view
 
 -- the desk with an edit that is staged
 pub change_at_desk : (rules : Rules) (view : ShelfView) (desk : Desk) (change : edits.Edit) → IsAtDesk rules view desk → IsAtDesk rules (with_change view change) (with_edit rules desk change)

@@ -1,6 +1,6 @@
 -- What a byte is for an operator that stands for a clerk and a desk.
 use Rattle.std.proofs.Common.{◌≡◌, ℕ, ◌+◌, ◌^◌, ◌<◌, ◌≤◌, inl, inr, List, [], ◌∷◌, ◌++◌, length, drop, refl, sym, ◌∙◌, ap, subst, arith, length-append, append-nil, true, false, Option, Some, None, cond}
-use Rattle.std.specs.Prelude.{◌==◌, ◌||◌, ◌⊎◌, is_some, slice_index, unwrap_or}
+use Rattle.std.specs.Prelude.{◌==◌, ◌||◌, is_some, slice_index, unwrap_or}
 use Rattle.std.specs.Option.{option_map_or, option_or}
 use Rattle.std.specs.List.{cons_option}
 use Rattle.std.proofs.lemmas.Bool.{cases_lt, eqb-true, both_ways}
@@ -11,7 +11,6 @@ use Rattle.hk_base.specs.declared.plain.WireFault.TheVariants.{Cut, TooLong}
 use Rattle.hk_spec_streams.specs.Pieces.{completed, pieces_within}
 use Rattle.hk_spec_streams.specs.Grammar.{packets, ends_at_start}
 use Rattle.hk_spec_streams.specs.Operator.{Command, command_for, operator_grammar, operator_met, operator_fault, operator_wrong, commands}
-use Rattle.hk_spec_streams.proofs.Completing.{completed-append}
 use Rattle.hk_spec_streams.proofs.GrowingCommands.{whole_command, commands-append}
 use Rattle.hk_spec_runs.specs.Desk.{Rules, Desk}
 use Rattle.hk_spec_runs.specs.Replay.{Clerk, operator_end_of}
@@ -29,65 +28,15 @@ use Rattle.hk_operator.specs.Draft.{IsDraft, Drafts, draft_after}
 use Rattle.hk_operator.specs.Sound.{IsRecording, sound_in, sound_of, sound_there, sound_ahead}
 use Rattle.hk_operator.specs.Obeying.{Pushes, IsInOrder, HasObeyed, HasMet, IsAtEnd, IsObeying, IsDesk, clerk_after, new_commands, end_in, IsAnswered, next_number, counted}
 use Rattle.hk_operator.specs.declared.done.Done.{Done}
-use Rattle.hk_operator.specs.declared.done.Done.TheVariants.{More, Reply, Publish as Published, Over}
+use Rattle.hk_operator.specs.declared.done.Done.TheVariants.{More, Over}
 use Rattle.hk_operator.specs.declared.operator.Operator.{Operator}
 use Rattle.hk_operator.specs.declared.draft.Draft.{Draft}
 use Rattle.hk_operator.specs.declared.recorder.Recorder.{Recorder}
 use Rattle.hk_operator.proofs.Coming.{next_in_order, nothing_in_order}
-use Rattle.hk_operator.proofs.Drafting.{part_is, ends_is, not_fault, next_draft, no_draft, next_sound, room_stays, IsWhole, whole_is}
-
-maybe : {A : Type 0} (o : Option A) → (o ≡ None) ⊎ ((x : A) × (o ≡ Some x))
-maybe None = inl refl
-maybe (Some x) = inr (x, refl)
-
-same_fault_in : (f g : WireFault) → items.Fault f ≡ items.Fault g → f ≡ g
-same_fault_in f g is = cc
-
--- an answer by other words
-pub answered_as : (rules : Rules) (desk : Desk) (n m : ℕ) (c : Command) (done : Done) (Leaves Leaves' : Desk → Type 0) → n ≡ m → ((now : Desk) → Leaves now → Leaves' now)
-    → IsAnswered rules desk n (c ∷ []) done Leaves → IsAnswered rules desk m (c ∷ []) done Leaves'
-answered_as rules desk n m c More Leaves Leaves' same on is = is
-answered_as rules desk n m c (Over e) Leaves Leaves' same on is = is
-answered_as rules desk n m c (Reply r) Leaves Leaves' same on is = (is.0, is.1, is.2 ∙ same, is.3, on _ is.4)
-answered_as rules desk n m c (Published k) Leaves Leaves' same on is = (is.0, is.1, is.2 ∙ same, on _ is.3)
-
-no_end : (rules : Rules) (desk : Desk) (n : ℕ) (c : Command) (done : Done) (Leaves : Desk → Type 0) → IsAnswered rules desk n (c ∷ []) done Leaves → end_in done ≡ None
-no_end rules desk n c More Leaves is = absurd is
-no_end rules desk n c (Over e) Leaves is = absurd is
-no_end rules desk n c (Reply r) Leaves is = refl
-no_end rules desk n c (Published k) Leaves is = refl
-
-module _ (rules : Rules) (clerk : Clerk) (b : ℕ) where
-  abbrev used_more : List ℕ
-  used_more = clerk.used ++ b ∷ []
-
-  after_by : (end : Option OpEnd) (met : Option WireFault) → Clerk
-  after_by end met = cond (is_some end) clerk
-      (option_map_or (λ fault. record { used = clerk.used; end = Some (op_ends.Wire fault) }) met (record { used = used_more; end = None }))
-
-  after_is : (end : Option OpEnd) (met : Option WireFault) → clerk.end ≡ end → operator_met rules.bytes used_more ≡ met → clerk_after rules clerk b ≡ after_by end met
-  unfolding after_by
-  after_is end met e m = ap (λ x. after_by x (operator_met rules.bytes used_more)) e ∙ ap (after_by end) m
-
-  over_stays : (end : OpEnd) → clerk.end ≡ Some end → clerk_after rules clerk b ≡ clerk
-  unfolding after_by
-  over_stays end is = after_is (Some end) (operator_met rules.bytes used_more) is refl
-
-  fault_ends : (fault : WireFault) → clerk.end ≡ None → operator_met rules.bytes used_more ≡ Some fault → clerk_after rules clerk b ≡ record { used = clerk.used; end = Some (op_ends.Wire fault) }
-  unfolding after_by
-  fault_ends fault going met = after_is None (Some fault) going met
-
-  byte_used : clerk.end ≡ None → operator_met rules.bytes used_more ≡ None → clerk_after rules clerk b ≡ record { used = used_more; end = None }
-  unfolding after_by
-  byte_used going met = after_is None None going met
-
-  commands_by : (after : Clerk) → clerk_after rules clerk b ≡ after → new_commands rules clerk b ≡ cond (is_some after.end) [] (completed commands used_more)
-  commands_by after is = ap (λ (c : Clerk). cond (is_some c.end) [] (completed commands used_more)) is
-
-  pub commands_now : clerk.end ≡ None → operator_met rules.bytes used_more ≡ None → new_commands rules clerk b ≡ cons_option (whole_command (last_command used_more)) []
-  commands_now going met =
-      commands_by (record { used = used_more; end = None }) (byte_used going met)
-      ∙ completed-append commands clerk.used b (cons_option (whole_command (last_command used_more)) []) (commands-append clerk.used b)
+use Rattle.hk_operator.proofs.Drafting.{part_is, ends_is, not_fault, next_draft, no_draft, room_stays}
+use Rattle.hk_operator.proofs.SoundThere.{next_sound}
+use Rattle.hk_operator.proofs.WholeCommands.{IsWhole, whole_is}
+use Rattle.hk_operator.proofs.ClerkAfter.{maybe, same_fault_in, answered_as, no_end, over_stays, fault_ends, byte_used, commands_by, commands_now}
 
 module _ (rules : Rules) (op : Operator) (view : ShelfView) (clerk : Clerk) (desk : Desk) (b : ℕ) (h : IsObeying rules op view clerk desk)
     (wire : OpWire) (item : OpItem) (pushes : Pushes op.wire b wire item) where

@@ -14,14 +14,11 @@ use Rattle.hk_spec_streams.specs.Pieces.{is_one_of}
 use Rattle.hk_spec_streams.specs.Operator.{OpenSong, Audio}
 use Rattle.hk_spec_runs.specs.Desk.{Rules, Desk, Recording, answer, after, recorded_words, with_audio}
 use Rattle.hk_front.specs.Hearing.{Hearing, HasTaken, KeepsRules, channels_of, factor_of, prints_in}
-use Rattle.hk_front.proofs.Silence.{samples_of-nil, decimated-nil, frame_energies-nil}
+use Rattle.hk_spec_sound.proofs.Silence.{samples_of-nil, decimated-nil, frame_energies-nil}
 use Rattle.hk_operator.specs.Kept.{Words, Keeps, with_word, cleared}
 use Rattle.hk_operator.specs.Sound.{IsFixed, IsAllowedForm, IsRecording, Hears}
 use Rattle.hk_operator.specs.declared.recorder.Recorder.{Recorder}
 use Rattle.hk_operator.proofs.Drafting.{keeps_nothing, keeps_more}
-
-word_in : Print → ℕ
-word_in print = print.word
 
 -- the words of prints are the same, however many bits are weak
 same_words : (k j : ℕ) (es : List (List ℕ × List ℕ)) → map (λ (p : Print). p.word) (map (λ e. print_of k (differences e.0 e.1)) es) ≡ map (λ (p : Print). p.word) (map (λ e. print_of j (differences e.0 e.1)) es)
@@ -83,11 +80,6 @@ hears_more rules r (Some song) sound b front print fixed opened keeps taken prin
       taken = taken heard is.taken;
       words = subst (Keeps (kept_after r.words print)) (sym grown) (keeps_print r.words (recorded_words rules (record song { audio = heard })) print kept);
     })
-
--- sound with no open song
-pub hears_none : (rules : Rules) (r : Recorder) (song : Option Recording) (sound more : List ℕ) → r.song ≡ None → IsRecording rules r song sound → IsRecording rules r song (sound ++ more)
-hears_none rules r None sound more none is = is
-hears_none rules r (Some song) sound more none is = absurd (let no : None ≡ Some song.id = sym none ∙ is.id in cc)
 
 -- nothing is heard
 pub hears_nothing : (rules : Rules) (r : Recorder) (song : Option Recording) (sound : List ℕ) → IsRecording rules r song sound → IsRecording rules r song (sound ++ [])

@@ -1,5 +1,8 @@
 pub mod Coming
 pub mod Drafting
+pub mod SoundThere
+pub mod WholeCommands
+pub mod ClerkAfter
 pub mod Hearing
 pub mod Deciding
 pub mod Following

@@ -1,5 +1,5 @@
 -- A command's payload with one more byte: its id, and its words.
-use Rattle.std.proofs.Common.{◌≡◌, ℕ, suc, ◌+◌, ◌-◌, ◌*◌, ◌/◌, ◌%◌, ◌<◌, ◌≤◌, List, [], ◌∷◌, ◌++◌, length, take, drop, map, refl, sym, ◌∙◌, ap, subst, arith, length-append, append-nil, inl, inr}
+use Rattle.std.proofs.Common.{◌≡◌, ℕ, ◌+◌, ◌-◌, ◌*◌, ◌/◌, ◌%◌, ◌<◌, ◌≤◌, List, [], ◌∷◌, ◌++◌, length, take, drop, map, refl, sym, ◌∙◌, ap, arith, length-append}
 use Rattle.std.specs.Prelude.{slice_index}
 use Rattle.std.specs.Int.{w32, from_be_bytes}
 use Rattle.std.proofs.lemmas.List.{drop-append-le, take-append-le, drop-drop, drop_all, length-drop, map-append, get_or_append_left}
@@ -7,7 +7,7 @@ use Rattle.std.proofs.lemmas.Nat.{div-add-mod'}
 use Rattle.std.proofs.Common.{mod-lt}
 use Rattle.hk_spec_sound.specs.Windows.{windows}
 use Rattle.hk_spec_sound.specs.Groups.{rest_of}
-use Rattle.hk_spec_sound.proofs.GrowingGroups.{length-rest_of, rest_is_short, groups-append_whole, groups-append_part}
+use Rattle.hk_spec_sound.proofs.GrowingGroups.{length-rest_of, groups-append_whole, groups-append_part}
 use Rattle.hk_spec_streams.specs.Operator.{words_of}
 use Rattle.hk_operator_wire.specs.Items.{last_number}
 use Rattle.hk_operator_wire.proofs.Reading.{first_four}

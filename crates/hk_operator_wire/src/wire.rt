@@ -2,7 +2,7 @@
 ghost use Rattle.std.specs.Prelude.{◌≡◌, ◌≤◌, ◌++◌, ℕ, List, [], ◌∷◌, length, Some, None};
 ghost use Rattle.std.specs.Result.{result_err};
 ghost use Rattle.hk_base.specs.declared.plain.WireFault.{WireFault};
-ghost use Rattle.hk_spec_streams.specs.Operator.{operator_wrong, operator_seen};
+ghost use Rattle.hk_spec_streams.specs.Operator.{operator_wrong};
 ghost use Rattle.hk_station_wire.specs.Held.{count_of};
 ghost use Rattle.hk_station_wire.specs.Kept.{bytes_taken, fault_kept};
 
@@ -68,12 +68,5 @@ impl OpWire {
     {
         let may_end = self.reader.may_end(self.passage.taken());
         self.passage.finish(may_end)
-    }
-
-    /// How many bytes were taken before the fault, or in all.
-    pub fn taken(&self) -> u64
-        ensures { (text : List ℕ) → HasTaken self.now text → result ≡ length (operator_seen (limit_of self.now) text) }
-    {
-        self.passage.taken()
     }
 }

@@ -1,5 +1,5 @@
 -- How an input ends, as what all of it says.
-use Rattle.std.proofs.Common.{◌≡◌, ℕ, List, [], ◌++◌, refl, sym, ◌∙◌, ap, subst, append_assoc, append-nil, Bool, true, Option, Some, None, option_map, inl, inr}
+use Rattle.std.proofs.Common.{◌≡◌, ℕ, List, ◌++◌, refl, sym, ◌∙◌, ap, subst, append_assoc, append-nil, Bool, Option, Some, None, option_map, inl, inr}
 use Rattle.std.specs.Option.{option_or}
 use Rattle.hk_base.specs.Devices.{Took, Wrote, IsNothing}
 use Rattle.hk_base.proofs.Taking.{Wrote-append}
@@ -8,10 +8,9 @@ use Rattle.hk_base.specs.declared.plain.Trouble.TheVariants.{ReadFault}
 use Rattle.hk_spec_lines.specs.Lines.{trouble_line}
 use Rattle.hk_spec_streams.specs.Pieces.{first_met, fault_of, seen_of}
 use Rattle.hk_spec_streams.proofs.FirstFault.{first_met-more}
-use Rattle.hk_spec_runs.specs.Outcome.{Trades, IsWhole, IsStopped, IsUnread, IsUnwritten}
+use Rattle.hk_spec_runs.specs.Outcome.{Trades, IsWhole, IsStopped, IsReadFault, IsWriteFault}
 use Rattle.hk_report.specs.Fronts.{WroteFront}
 use Rattle.hk_player.specs.Course.{Course, task_of_course}
-use Rattle.hk_player.specs.Pieces.{HasLeft}
 use Rattle.hk_player.proofs.Faults.{seen_whole}
 
 module _ (c : Course) (r b o : List ℕ) (rest : Option (List ℕ)) where
@@ -39,7 +38,7 @@ module _ (c : Course) (r b o : List ℕ) (rest : Option (List ℕ)) where
       text = ap (λ t. t ++ trouble_line trouble) (is ∙ ap (c.printed r) (sym seen));
     }
 
-    pub unread : IsUnread (task_of_course c) b (o ++ trouble_line ReadFault)
+    pub unread : IsReadFault (task_of_course c) b (o ++ trouble_line ReadFault)
     unread = record {
       reads = refl;
       refused = r;
@@ -75,16 +74,16 @@ module _ (b o line : List ℕ) (x y u v w : Option (List ℕ)) (took : Took b x 
   )
 
 module _ (c : Course) (R : Type 0) (rest : Option (List ℕ)) (b o missing : List ℕ) where
-  pub torn_text : (r : List ℕ) → o ++ missing ≡ c.printed r (seen_of c.met b) → IsUnwritten (task_of_course c) R rest b o
+  pub torn_text : (r : List ℕ) → o ++ missing ≡ c.printed r (seen_of c.met b) → IsWriteFault (task_of_course c) R rest b o
   torn_text r is = record { unread = λ reads. cc; more = missing; text = inl (r, is) }
 
-  pub torn_whole : (in_order : Bool) → IsWhole (task_of_course c) rest in_order b (o ++ missing) → IsUnwritten (task_of_course c) R rest b o
+  pub torn_whole : (in_order : Bool) → IsWhole (task_of_course c) rest in_order b (o ++ missing) → IsWriteFault (task_of_course c) R rest b o
   torn_whole in_order whole = record { unread = λ reads. cc; more = missing; text = inr (inl (in_order, whole)) }
 
-  pub torn_stop : IsStopped (task_of_course c) rest b (o ++ missing) → IsUnwritten (task_of_course c) R rest b o
+  pub torn_stop : IsStopped (task_of_course c) rest b (o ++ missing) → IsWriteFault (task_of_course c) R rest b o
   torn_stop stopped = record { unread = λ reads. cc; more = missing; text = inr (inr (inl stopped)) }
 
-  pub torn_read : R → IsUnread (task_of_course c) b (o ++ missing) → IsUnwritten (task_of_course c) R rest b o
+  pub torn_read : R → IsReadFault (task_of_course c) b (o ++ missing) → IsWriteFault (task_of_course c) R rest b o
   torn_read failed unread = record { unread = λ reads. cc; more = missing; text = inr (inr (inr (failed, unread))) }
 
 -- a fault stays, whatever bytes follow
@@ -97,7 +96,7 @@ fault_more {F = F} met b more f is = from (first_met met b) refl is
 
 -- nothing stops an input with which nothing is wrong
 pub never_stopped : (c : Course) (whole b o : List ℕ) (rest : Option (List ℕ)) → Took b (Some whole) rest → IsStopped (task_of_course c) rest b o
-    → ((refused : List ℕ) → (task_of_course c).wrong whole refused ≡ None) → ⊥
+    → (task_of_course c).wrong whole ≡ None → ⊥
 never_stopped c whole b o None took stopped right = cc
 never_stopped c whole b o (Some more) took stopped right =
     let same : whole ≡ b ++ more = cc in
@@ -108,12 +107,12 @@ never_stopped c whole b o (Some more) took stopped right =
 
     by : (f : Option Trouble) → fault_of c.met b ≡ f → whole ≡ b ++ more → ⊥
     by (Some trouble) is same =
-        some_isnt trouble (sym (ap (λ f. option_or f (c.ending whole)) (ap (fault_of c.met) same ∙ fault_more c.met b more trouble is)) ∙ right stopped.refused)
+        some_isnt trouble (sym (ap (λ f. option_or f (c.ending whole)) (ap (fault_of c.met) same ∙ fault_more c.met b more trouble is)) ∙ right)
     by None is same =
         let all : whole ≡ b = same ∙ ap (λ m. b ++ m) (stopped.at_the_end is) ∙ append-nil b in
-        some_isnt stopped.trouble (sym stopped.first ∙ ap (λ t. option_or (fault_of c.met t) (c.ending t)) (sym all) ∙ right stopped.refused)
+        some_isnt stopped.trouble (sym stopped.first ∙ ap (λ t. option_or (fault_of c.met t) (c.ending t)) (sym all) ∙ right)
 
 pub stays_right : (c : Course) (whole : List ℕ) (left rest before now : Option (List ℕ)) → Trades left rest before now (IsStopped (task_of_course c) rest) → left ≡ Some whole
-    → ((refused : List ℕ) → (task_of_course c).wrong whole refused ≡ None) → ⊥
+    → (task_of_course c).wrong whole ≡ None → ⊥
 stays_right c whole left rest before now trades tells right =
     never_stopped c whole trades.0 trades.1 rest (subst (λ (l : Option (List ℕ)). Took trades.0 l rest) tells trades.2) trades.4 right

@@ -4,11 +4,11 @@ use Rattle.std.proofs.lemmas.List.{take-append-drop, take_more, length-take-le}
 use Rattle.hk_base.specs.Devices.{Took, Wrote}
 use Rattle.hk_base.proofs.Taking.{Took-append, Wrote-append}
 use Rattle.hk_base.specs.declared.plain.Trouble.{Trouble}
-use Rattle.hk_spec_streams.specs.Pieces.{fault_of, seen_of}
+use Rattle.hk_spec_streams.specs.Pieces.{fault_of}
 use Rattle.hk_spec_runs.specs.Outcome.{Trades}
 use Rattle.hk_player.specs.Course.{Course}
 use Rattle.hk_player.specs.Playing.{Adds, AddsFront, Goes, StopsAt, IsTorn}
-use Rattle.hk_player.specs.Pieces.{HasPlayed, HasLeft, HasTorn}
+use Rattle.hk_player.specs.Pieces.{HasLeft, HasTorn}
 use Rattle.hk_player.proofs.Faults.{stops-fault, stops-seen}
 
 pub Wrote-nothing : (w : Option (List ℕ)) → Wrote [] w w

@@ -22,8 +22,8 @@ pub record Course : Type 0 where
 abbrev pub task_of_course : Course → Task
 task_of_course c = record {
   reads = true;
-  met = λ input refused. fault_of c.met input;
-  wrong = λ input refused. option_or (fault_of c.met input) (c.ending input);
+  met = fault_of c.met;
+  wrong = λ input. option_or (fault_of c.met input) (c.ending input);
   text = λ input refused. c.printed refused (seen_of c.met input);
   whole = λ input refused. c.printed refused (seen_of c.met input) ++ c.finale refused (seen_of c.met input);
   ended = λ input refused. c.in_order refused (seen_of c.met input);

@@ -1,5 +1,5 @@
 -- What was made of pieces of the input.
-use Rattle.std.specs.Prelude.{◌≡◌, ⊤, ℕ, List, [], ◌++◌, Option, Some}
+use Rattle.std.specs.Prelude.{◌≡◌, ⊤, ℕ, List, ◌++◌, Some}
 use Rattle.hk_base.specs.declared.plain.Trouble.{Trouble}
 use Rattle.hk_spec_streams.specs.Pieces.{fault_of, seen_of}
 use Rattle.hk_player.specs.Course.{Course}

@@ -1,9 +1,8 @@
 -- What was played, and what a step of it writes.
-use Rattle.std.specs.Prelude.{◌≡◌, ⊤, ℕ, ◌≤◌, ◌⊎◌, Bool, List, [], ◌++◌, length, Option, Some, None}
+use Rattle.std.specs.Prelude.{◌≡◌, ⊤, ℕ, Bool, List, ◌++◌, Option, Some}
 use Rattle.hk_base.specs.Devices.{Wrote}
 use Rattle.hk_base.specs.declared.plain.Trouble.{Trouble}
 use Rattle.hk_spec_streams.specs.Pieces.{fault_of, seen_of}
-use Rattle.hk_report.specs.Fronts.{WroteFront}
 use Rattle.hk_player.specs.Course.{Course}
 use Rattle.hk_player.specs.declared.player.Taken.{Taken}
 use Rattle.hk_player.specs.declared.player.Taken.TheVariants as takens

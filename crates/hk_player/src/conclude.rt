@@ -1,7 +1,7 @@
 // How an input ends: its last lines, and the status.
 ghost use Rattle.std.specs.Prelude.{◌≡◌, ◌≤◌, ◌⊎◌, ℕ, List, Some, None, true, false, []};
 ghost use Rattle.hk_base.specs.Devices.{Rose, Wrote};
-ghost use Rattle.hk_spec_runs.specs.Outcome.{Trades, IsWhole, IsStopped, IsUnread, IsUnwritten};
+ghost use Rattle.hk_spec_runs.specs.Outcome.{Trades, IsWhole, IsStopped, IsReadFault, IsWriteFault};
 ghost use Rattle.hk_spec_lines.specs.Lines.{trouble_line};
 ghost use Rattle.hk_report.specs.Fronts.{WroteFront};
 ghost use Rattle.hk_player.specs.Course.{task_of_course};
@@ -42,17 +42,21 @@ pub fn play<P: Player, S: Source, K: Sink, L: Ledger>(
     ensures in_disorder { result.code ≡ IN_DISORDER → Trades (S.left input.old) (S.left input.new) (K.written out.old) (K.written out.new)
         (IsWhole (task_of_course (P.course player.old)) (S.left input.new) false) }
     ensures read_fault { result.code ≡ READ_FAULT → Trades (S.left input.old) (S.left input.new) (K.written out.old) (K.written out.new)
-        (IsUnread (task_of_course (P.course player.old))) }
+        (IsReadFault (task_of_course (P.course player.old))) }
     ensures stopped { result.code ≡ STOPPED → Trades (S.left input.old) (S.left input.new) (K.written out.old) (K.written out.new)
         (IsStopped (task_of_course (P.course player.old)) (S.left input.new)) }
     ensures write_fault { result.code ≡ WRITE_FAULT → Trades (S.left input.old) (S.left input.new) (K.written out.old) (K.written out.new)
-        (IsUnwritten (task_of_course (P.course player.old)) (Rose (S.faults input.old) (S.faults input.new)) (S.left input.new)) }
+        (IsWriteFault (task_of_course (P.course player.old)) (Rose (S.faults input.old) (S.faults input.new)) (S.left input.new)) }
 
     ensures read_fault_cause { result.code ≡ READ_FAULT → Rose (S.faults input.old) (S.faults input.new) }
     ensures write_fault_cause { result.code ≡ WRITE_FAULT → Rose (K.faults out.old) (K.faults out.new) }
 
+    // A failed read or write is never passed over.
+    ensures no_read_failed { (result.code ≡ READ_FAULT → ⊥) → (result.code ≡ WRITE_FAULT → ⊥) → S.faults input.new ≡ S.faults input.old }
+    ensures no_write_failed { (result.code ≡ WRITE_FAULT → ⊥) → K.faults out.new ≡ K.faults out.old }
+
     // An input with which nothing is wrong is never refused.
-    ensures complete { (b : List ℕ) → S.left input.old ≡ Some b → ((refused : List ℕ) → (task_of_course (P.course player.old)).wrong b refused ≡ None)
+    ensures complete { (b : List ℕ) → S.left input.old ≡ Some b → (task_of_course (P.course player.old)).wrong b ≡ None
         → (Rose (S.faults input.old) (S.faults input.new) → ⊥) → (Rose (K.faults out.old) (K.faults out.new) → ⊥) → (result.code ≡ ENDED) ⊎ (result.code ≡ IN_DISORDER) }
 {
     match play_input(player, input, out, steps) {
@@ -76,6 +80,7 @@ fn end<P: Player, K: Sink>(player: &mut P, out: &mut K) -> Status
         → IsTornEnd (P.course player.old) refused text (K.written out.old) (K.written out.new) }
     ensures cause { result.code ≡ WRITE_FAULT → Rose (K.faults out.old) (K.faults out.new) }
     ensures never_falls { K.faults out.old ≤ K.faults out.new }
+    ensures counts_failures { (result.code ≡ WRITE_FAULT → ⊥) → K.faults out.new ≡ K.faults out.old }
 {
     match player.finish(out) {
         Finished::Whole(true) => Status { code: ENDED },
@@ -93,6 +98,7 @@ fn tell<K: Sink>(out: &mut K, trouble: &Trouble, code: u8) -> Status
     ensures torn { result.code ≡ WRITE_FAULT → WroteFront (trouble_line trouble.now) (K.written out.old) (K.written out.new) }
     ensures cause { result.code ≡ WRITE_FAULT → Rose (K.faults out.old) (K.faults out.new) }
     ensures never_falls { K.faults out.old ≤ K.faults out.new }
+    ensures counts_failures { (result.code ≡ WRITE_FAULT → ⊥) → K.faults out.new ≡ K.faults out.old }
 {
     match write_trouble(out, trouble) {
         Ok(()) => Status { code },

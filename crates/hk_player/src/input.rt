@@ -44,6 +44,8 @@ pub fn play_input<P: Player, S: Source, K: Sink, L: Ledger>(
     ensures write_cause { result ≡ Stop.SinkFault → Rose (K.faults out.old) (K.faults out.new) }
     ensures reads_count { S.faults input.old ≤ S.faults input.new }
     ensures writes_count { K.faults out.old ≤ K.faults out.new }
+    ensures no_read_failed { (result ≡ Stop.ReadFault → ⊥) → S.faults input.new ≡ S.faults input.old }
+    ensures no_write_failed { (result ≡ Stop.SinkFault → ⊥) → K.faults out.new ≡ K.faults out.old }
 {
     let mut buffer = [0u8; PIECE_SIZE];
     for _turn in 0..u64::MAX {

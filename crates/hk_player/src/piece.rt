@@ -33,6 +33,7 @@ pub fn play_piece<P: Player, K: Sink, L: Ledger>(
         → IsTorn (P.course player.old) refused text (text ++ piece.now) (K.written out.old) (K.written out.new) }
     ensures cause { result ≡ Played.SinkFault → Rose (K.faults out.old) (K.faults out.new) }
     ensures never_falls { K.faults out.old ≤ K.faults out.new }
+    ensures counts_failures { (result ≡ Played.SinkFault → ⊥) → K.faults out.new ≡ K.faults out.old }
 {
     for byte in piece {
         match player.take(*byte, out, steps) {

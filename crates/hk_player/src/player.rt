@@ -50,7 +50,8 @@ pub trait Player {
             × ((refused' : List ℕ) × Goes (course self.old) refused' (text ++ byte ∷ [])
             × AddsFront (course self.old) refused text refused' (text ++ byte ∷ []) (K.written out.old) (K.written out.new)) }
         ensures cause { result ≡ Taken.SinkFault → Rose (K.faults out.old) (K.faults out.new) }
-        ensures never_falls { K.faults out.old ≤ K.faults out.new };
+        ensures never_falls { K.faults out.old ≤ K.faults out.new }
+        ensures counts_failures { (result ≡ Taken.SinkFault → ⊥) → K.faults out.new ≡ K.faults out.old };
 
     /// Ends the input, and writes the last lines where nothing is wrong with its end.
     fn finish<K: Sink>(&mut self, out: &mut K) -> Finished
@@ -62,7 +63,8 @@ pub trait Player {
         ensures torn { result ≡ Finished.Torn → (refused text : List ℕ) → has_played self.old refused text
             → ((course self.old).ending text ≡ None) × WroteFront ((course self.old).finale refused text) (K.written out.old) (K.written out.new) }
         ensures cause { result ≡ Finished.Torn → Rose (K.faults out.old) (K.faults out.new) }
-        ensures never_falls { K.faults out.old ≤ K.faults out.new };
+        ensures never_falls { K.faults out.old ≤ K.faults out.new }
+        ensures counts_failures { (result ≡ Finished.Torn → ⊥) → K.faults out.new ≡ K.faults out.old };
 
     /// What was played has no fault, and no more bytes than the most, of which there are fewer than 2^63.
     ghost in_form: { (p : Self) (refused text : List ℕ) → has_played p refused text

@@ -7,7 +7,7 @@ use Rattle.std.specs.List.{enumerate_from}
 use Rattle.hk_base.specs.declared.plain.Print.{Print}
 use Rattle.hk_spec_sound.specs.Windows.{windows, adjacent, window, window_count, last_of}
 use Rattle.hk_spec_sound.specs.Samples.{samples_of, mono_of, decimated, weighted_mean}
-use Rattle.hk_spec_sound.specs.Prints.{Analysis, full_analysis, energies_of, frame_energies, differences, print_of, prints_of_samples, prints_of_sound}
+use Rattle.hk_spec_sound.specs.Prints.{full_analysis, energies_of, frame_energies, differences, print_of, prints_of_samples, prints_of_sound}
 use Rattle.hk_spec_sound.proofs.Growing.{Grows, by_one, after}
 use Rattle.hk_spec_sound.proofs.GrowingWindows.{windows-append, completes}
 use Rattle.hk_spec_sound.proofs.GrowingPrints.{adjacent-append}

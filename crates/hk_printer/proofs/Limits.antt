@@ -1,8 +1,8 @@
 -- The limit of bytes.
-use Rattle.std.proofs.Common.{◌≡◌, ℕ, ◌+◌, ◌<◌, ◌≤◌, ◌^◌, List, [], ◌∷◌, ◌++◌, length, refl, sym, ◌∙◌, ap, arith, length-append, None, Some, cond}
+use Rattle.std.proofs.Common.{◌≡◌, ℕ, ◌+◌, ◌<◌, ◌≤◌, List, [], ◌∷◌, ◌++◌, length, refl, ap, arith, length-append, None, Some, cond}
 use Rattle.std.proofs.lemmas.Bool.{le-ltb, lt-ltb}
 use Rattle.hk_base.specs.declared.plain.Trouble.TheVariants.{TooLong}
-use Rattle.hk_spec_streams.specs.Pieces.{first_met, fault_of, seen_of}
+use Rattle.hk_spec_streams.specs.Pieces.{first_met, fault_of}
 use Rattle.hk_spec_streams.proofs.NextFault.{by_bytes, fault_of-none}
 use Rattle.hk_spec_runs.specs.Words.{Printing}
 use Rattle.hk_printer.specs.Sounding.{met_at}

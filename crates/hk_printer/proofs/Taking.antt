@@ -1,9 +1,8 @@
 -- A byte more of the sound.
-use Rattle.std.proofs.Common.{◌≡◌, ℕ, ◌+◌, ◌<◌, ◌≤◌, List, [], ◌∷◌, ◌++◌, length, refl, sym, ◌∙◌, ap, arith, length-append, append_assoc, append-nil, Option, Some, None}
+use Rattle.std.proofs.Common.{◌≡◌, ℕ, ◌+◌, ◌<◌, ◌≤◌, List, [], ◌∷◌, ◌++◌, length, refl, sym, ◌∙◌, ap, arith, length-append, append-nil, Option, Some, None}
 use Rattle.std.specs.Prelude.{option_to_list}
 use Rattle.hk_base.specs.declared.plain.Print.{Print}
 use Rattle.hk_spec_sound.specs.Prints.{full_analysis, prints_of_sound}
-use Rattle.hk_spec_streams.specs.Pieces.{seen_of}
 use Rattle.hk_spec_lines.specs.Lines.{print_line}
 use Rattle.hk_front.specs.Hearing as fronts
 use Rattle.hk_front.specs.Hearing.{Hearing, KeepsRules}

@@ -1,5 +1,5 @@
 -- A printer's course makes of an input what the command to print asks for.
-use Rattle.std.proofs.Common.{◌≡◌, ℕ, ◌+◌, ◌<◌, ◌≤◌, List, [], ◌∷◌, ◌++◌, length, take, drop, get_or, refl, sym, ◌∙◌, ap, arith, length-append, append-nil, Bool, true, false, cond, Option, Some, None, inl, inr}
+use Rattle.std.proofs.Common.{◌≡◌, ℕ, ◌+◌, List, [], ◌∷◌, ◌++◌, length, take, drop, get_or, refl, sym, ◌∙◌, ap, arith, length-append, append-nil, Bool, true, false, cond, Option, Some, None, inl, inr}
 use Rattle.std.proofs.lemmas.Bool.{le-ltb, lt-ltb}
 use Rattle.std.proofs.lemmas.Bool.Decides.{leb_tells}
 use Rattle.std.proofs.lemmas.List.{take_all, length-take-le}
@@ -8,7 +8,7 @@ use Rattle.hk_base.specs.declared.plain.Trouble.TheVariants.{TooLong, ReadFault}
 use Rattle.hk_spec_lines.specs.Lines.{trouble_line}
 use Rattle.hk_spec_streams.specs.Pieces.{fault_of, seen_of}
 use Rattle.hk_spec_runs.specs.Words.{Printing, Print}
-use Rattle.hk_spec_runs.specs.Outcome.{IsWhole, IsStopped, IsUnread, IsUnwritten, task_of, over_limit}
+use Rattle.hk_spec_runs.specs.Outcome.{IsWhole, IsStopped, IsReadFault, IsWriteFault, task_of, over_limit}
 use Rattle.hk_player.specs.Course.{task_of_course}
 use Rattle.hk_player.proofs.Faults.{seen_whole, stops-fault, stops-seen}
 use Rattle.hk_player.proofs.Steps.{around}
@@ -67,7 +67,7 @@ module _ (p : Printing) (rest : Option (List ℕ)) (b o : List ℕ) where
     text = stopped.text ∙ ap (λ bytes. lines_of p bytes ++ trouble_line stopped.trouble) (limited p b).seen;
   }
 
-  pub unread_is : IsUnread (task_of_course (print_course p)) b o → IsUnread (task_of (Print p)) b o
+  pub unread_is : IsReadFault (task_of_course (print_course p)) b o → IsReadFault (task_of (Print p)) b o
   unread_is unread = record {
     reads = unread.reads;
     refused = unread.refused;
@@ -77,7 +77,7 @@ module _ (p : Printing) (rest : Option (List ℕ)) (b o : List ℕ) where
 
 -- a front of one of these
 pub unwritten_is : (p : Printing) (failed : Type 0) (rest : Option (List ℕ)) (b o : List ℕ)
-    → IsUnwritten (task_of_course (print_course p)) failed rest b o → IsUnwritten (task_of (Print p)) failed rest b o
+    → IsWriteFault (task_of_course (print_course p)) failed rest b o → IsWriteFault (task_of (Print p)) failed rest b o
 unwritten_is p failed rest b o unwritten = record {
   unread = unwritten.unread;
   more = unwritten.more;

@@ -1,14 +1,11 @@
 -- A record's bytes, up to the length and beyond.
-use Rattle.std.proofs.Common.{◌≡◌, ℕ, ◌+◌, ◌<◌, List, [], ◌∷◌, ◌++◌, length, refl, sym, ◌∙◌, ap, subst, arith, inl, inr, Bool, true, false, cond}
-use Rattle.std.specs.Prelude.{◌==◌}
+use Rattle.std.proofs.Common.{◌≡◌, ℕ, ◌+◌, ◌<◌, List, [], ◌∷◌, ◌++◌, length, refl, sym, subst, arith, inl, inr, Bool, cond}
 use Rattle.std.specs.Int.{w16, from_be_bytes}
-use Rattle.std.proofs.lemmas.Bool.{eq-eqb}
 use Rattle.std.proofs.lemmas.Bool.Decides.{eqb_tells}
 use Rattle.hk_spec_streams.specs.Records.{record_size}
 use Rattle.hk_records.specs.Part.{IsPart, IsRest, head_of}
 use Rattle.hk_records.specs.declared.part.Owner.{Owner}
 use Rattle.hk_records.specs.declared.part.Owner.TheVariants as owners
-use Rattle.hk_records.specs.declared.part.Part.{Part}
 use Rattle.hk_records.specs.declared.part.Part.TheVariants as parts
 
 -- a record's size and its length so far differ as the payload's do
@@ -16,13 +13,6 @@ pub same_excess : (owner : Owner) (high low left : ℕ) (payload : List ℕ) →
     → record_size (head_of owner ++ high ∷ low ∷ payload) ≡ length (head_of owner ++ high ∷ low ∷ payload) + left
 same_excess owners.Operator high low left payload is = omega (arith, is)
 same_excess (owners.Station n) high low left payload is = omega (arith, is)
-
-pub nothing_left : (owner : Owner) (high low : ℕ) (payload : List ℕ) → length payload + 0 ≡ from_be_bytes w16 (high ∷ low ∷ [])
-    → IsRest parts.Letter (head_of owner ++ high ∷ low ∷ payload)
-nothing_left owner high low payload is =
-    let bytes : List ℕ = head_of owner ++ high ∷ low ∷ payload in
-    let size : record_size bytes ≡ length bytes + 0 = same_excess owner high low 0 payload is in
-    ap (λ t. cond t [] bytes) (eq-eqb _ _ (omega (arith, size)))
 
 pub some_left : (owner : Owner) (high low left : ℕ) (payload : List ℕ) → 0 < left → length payload + left ≡ from_be_bytes w16 (high ∷ low ∷ [])
     → IsRest (parts.Body owner left) (head_of owner ++ high ∷ low ∷ payload)

@@ -1,15 +1,15 @@
 -- What the whole text says of its last byte, by the open record alone.
-use Rattle.std.proofs.Common.{◌≡◌, ℕ, suc, ◌+◌, ◌-◌, ◌<◌, ◌≤◌, inl, inr, List, [], ◌∷◌, ◌++◌, length, refl, sym, ◌∙◌, ap, arith, length-append, Bool, true, false, Option, Some, None, cond}
+use Rattle.std.proofs.Common.{◌≡◌, ℕ, suc, ◌+◌, ◌-◌, ◌<◌, ◌≤◌, inl, inr, List, [], ◌∷◌, ◌++◌, length, refl, ◌∙◌, ap, arith, length-append, Bool, true, false, Option, Some, None, cond}
 use Rattle.std.specs.Prelude.{◌==◌, ◌||◌, ◌&&◌, not, nat_lt, slice_get, slice_index}
 use Rattle.std.specs.Option.{option_map_or, option_or}
 use Rattle.std.proofs.lemmas.Bool.{eqb-true, and_parts}
 use Rattle.std.proofs.lemmas.Bool.Decides.{leb_tells}
 use Rattle.hk_base.specs.declared.plain.Trouble.{Trouble}
 use Rattle.hk_base.specs.declared.plain.Trouble.TheVariants.{BadRecord, TooLong}
-use Rattle.hk_spec_streams.specs.Pieces.{completed, first_met, first_that_holds, last_bytes, pieces_within}
-use Rattle.hk_spec_streams.specs.Records.{STATION, OPERATOR, arrivals, arrival_after, records, input_met, input_fault, input_wrong, open_bytes, open_record}
+use Rattle.hk_spec_streams.specs.Pieces.{completed, first_met, first_that_holds, pieces_within}
+use Rattle.hk_spec_streams.specs.Records.{STATION, OPERATOR, arrivals, arrival_after, input_met, input_fault, input_wrong, open_bytes, open_record}
 use Rattle.hk_spec_streams.proofs.FirstFault.{fault_of-none}
-use Rattle.hk_spec_streams.proofs.Completing.{completed-append}
+use Rattle.hk_spec_streams.proofs.Completed.{completed-more}
 use Rattle.hk_spec_streams.proofs.GrowingRecords.{last_record-append, arrivals-append, open_record-is}
 use Rattle.hk_spec_streams.proofs.OpenPiece.{opened_piece}
 use Rattle.hk_records.specs.Part.{IsPart, arrived, has_bad_head, told}
@@ -17,7 +17,6 @@ use Rattle.hk_records.specs.declared.part.Owner.TheVariants as owners
 use Rattle.hk_records.specs.declared.part.Part.{Part}
 use Rattle.hk_records.specs.declared.part.Part.TheVariants as parts
 use Rattle.hk_records.specs.Reader.{came_at}
-use Rattle.hk_records.specs.declared.reader.Came.{Came}
 use Rattle.hk_records.specs.declared.reader.Came.TheVariants.{Head, Bad}
 
 -- the faults of a text's last byte, by how long the text is and the record that the byte belongs to
@@ -65,7 +64,7 @@ pub came-append : (stations limit : ℕ) (text : List ℕ) (b : ℕ)
 came-append stations limit text b =
     ap (λ o. option_map_or (λ trouble. Bad trouble) o (option_map_or told (slice_get (completed arrivals (text ++ b ∷ [])) 0) Head)) (met-append stations limit text b)
     ∙ ap (λ xs. option_map_or (λ trouble. Bad trouble) (fault_next stations limit (length text) (open_bytes text) b) (option_map_or told (slice_get xs 0) Head))
-    (completed-append arrivals text b (arrival_after (open_bytes text) b) (arrivals-append text b))
+    (completed-more arrivals text b (arrival_after (open_bytes text) b) (arrivals-append text b))
 
 lt_is : (a b : ℕ) → a < b → nat_lt a b ≡ true
 lt_is a b h = elim (leb_tells (suc a) b) [ inl within ↦ within.0 | inr other ↦ absurd (omega (arith, other.1)) ]

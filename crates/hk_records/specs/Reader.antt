@@ -1,5 +1,5 @@
 -- What a reader has read, and what it tells of the last byte.
-use Rattle.std.specs.Prelude.{◌≡◌, ℕ, ◌+◌, ◌≤◌, List, [], length, Option, Some, None, Result, MatchResult, ⊤, slice_get}
+use Rattle.std.specs.Prelude.{◌≡◌, ℕ, ◌+◌, ◌≤◌, List, [], length, Some, None, Result, MatchResult, ⊤, slice_get}
 use Rattle.std.specs.Option.{option_map_or}
 use Rattle.hk_base.specs.declared.plain.Trouble.{Trouble}
 use Rattle.hk_spec_streams.specs.Pieces.{completed}

@@ -77,11 +77,4 @@ impl RecordReader {
             _ => Err(Trouble::BadRecord(self.begun)),
         }
     }
-
-    /// How many bytes were read.
-    pub fn taken(&self) -> u64
-        ensures { (text : List ℕ) → HasRead self.now text → result ≡ length text }
-    {
-        self.taken
-    }
 }

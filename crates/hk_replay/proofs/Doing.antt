@@ -1,11 +1,13 @@
 -- What a task does, from what a player's play does.
-use Rattle.std.proofs.Common.{◌≡◌, ◌++◌, ℕ, List, refl, sym, ◌∙◌, ap, subst, arith, inl, inr, true, false, Option, Some, None, append-nil}
+use Rattle.std.proofs.Common.{◌≡◌, ◌++◌, ℕ, List, [], refl, sym, ◌∙◌, ap, subst, arith, inl, inr, true, false, Option, Some, None, option_map, append-nil}
 use Rattle.std.specs.Prelude.{String}
 use Rattle.std.specs.Option.{IfSome}
 use Rattle.std.proofs.lemmas.Bool.{both_ways}
+use Rattle.std.proofs.lemmas.List.{append_cancel_left}
 use Rattle.hk_base.specs.Devices.{Rose, Took, Wrote, IsNothing}
-use Rattle.hk_spec_runs.specs.Outcome.{Task, Trades, IsWhole}
-use Rattle.hk_spec_runs.specs.Words.{Order, order_of}
+use Rattle.hk_spec_runs.specs.Outcome.{Task, task_of, Trades, IsWhole}
+use Rattle.hk_spec_runs.proofs.EndsTold.{ends_are_told}
+use Rattle.hk_spec_runs.specs.Words.{Order, Replay, Print, Make, order_of}
 use Rattle.hk_words.specs.Options.{texts}
 use Rattle.hk_player.specs.Statuses.{IsPlayedStatus}
 use Rattle.hk_replay.specs.Top.{Does, IsTaskStatus, IfAsked, task_for, ENDED, NO_MEMORY}
@@ -31,6 +33,7 @@ no_memory task left written reads writes = record {
   known = inr (inr (inr (inr (inr refl))));
   reads_count = omega arith;
   writes_count = omega arith;
+  no_memory_unread = λ is. refl;
   no_memory_unwritten = λ is. refl;
   ended = λ is. cc;
   in_disorder = λ is. cc;
@@ -39,6 +42,8 @@ no_memory task left written reads writes = record {
   stopped = λ is. cc;
   read_fault_cause = λ is. cc;
   write_fault_cause = λ is. cc;
+  no_read_failed = λ read write. refl;
+  no_write_failed = λ write. refl;
   complete = λ b tells right reads writes memory. absurd (memory refl);
 }
 
@@ -54,22 +59,35 @@ whole_input b' b left (Some rest) took tells nothing =
     let same : b' ++ rest ≡ b = cc in
     sym (append-nil b') ∙ ap (λ r. b' ++ r) (sym nothing) ∙ same
 
--- A task that ended in disorder wrote a text by which some stream didn't end in order.
-disorder_is_told : (task : Task) (b : List ℕ) (left left' written written' : Option (List ℕ)) → task.reads ≡ true → left ≡ Some b
-    → Trades left left' written written' (IsWhole task left' false) → ((refused : List ℕ) → Wrote (task.whole b refused) written written' → task.ended b refused ≡ true) → ⊥
-disorder_is_told task b left left' written written' reads tells trades ends =
+-- what was written behind a text that is told
+written_behind : (o o' text : List ℕ) (written written' : Option (List ℕ)) → Wrote o written written' → written ≡ Some text → written' ≡ Some (text ++ o') → o ≡ o'
+written_behind o o' text written written' wrote before after =
+    let both : Some (text ++ o) ≡ Some (text ++ o') = sym (ap (option_map (λ t. t ++ o)) before) ∙ sym wrote ∙ after in
+    let same : text ++ o ≡ text ++ o' = cc in
+    append_cancel_left text o o' same
+
+-- the text that is made of an input tells whether all streams ended in order
+order_tells : (order : Order) (b some others : List ℕ) → (task_of order).whole b some ≡ (task_of order).whole b others → (task_of order).ended b some ≡ (task_of order).ended b others
+order_tells (Replay rules) b some others same = ends_are_told rules b some others same
+order_tells (Print p) b some others same = refl
+order_tells (Make seed rules) b some others same = refl
+
+-- A task whose text with no refusal for memory was written, and by which all streams end in order, isn't told to be in disorder.
+never_in_disorder : (order : Order) (b text : List ℕ) (left left' written written' : Option (List ℕ)) → (task_of order).reads ≡ true → left ≡ Some b → written ≡ Some text
+    → written' ≡ Some (text ++ (task_of order).whole b []) → (task_of order).ended b [] ≡ true → Trades left left' written written' (IsWhole (task_of order) left' false) → ⊥
+never_in_disorder order b text left left' written written' reads tells before after in_order trades =
     let whole = trades.4 in
     let same : trades.0 ≡ b = whole_input trades.0 b left left' trades.2 tells (whole.to_the_end reads) in
-    let text : trades.1 ≡ task.whole b whole.refused = whole.text ∙ ap (λ t. task.whole t whole.refused) same in
-    let yes : task.ended b whole.refused ≡ true = ends whole.refused (subst (λ (t : List ℕ). Wrote t written written') text trades.3) in
-    both_ways (task.ended b whole.refused) (sym (ap (λ t. task.ended t whole.refused) same) ∙ whole.ended) yes
+    let wrote : trades.1 ≡ (task_of order).whole b [] = written_behind trades.1 ((task_of order).whole b []) text written written' trades.3 before after in
+    let said : (task_of order).whole b whole.refused ≡ (task_of order).whole b [] = ap (λ t. (task_of order).whole t whole.refused) (sym same) ∙ sym whole.text ∙ wrote in
+    both_ways ((task_of order).ended b whole.refused) (sym (ap (λ t. (task_of order).ended t whole.refused) same) ∙ whole.ended) (order_tells order b whole.refused [] said ∙ in_order)
 
--- an input without a fault whose streams all end in order, by every reading of what was written
-pub ends_in_order : (task : Task) (code : ℕ) (left left' written written' : Option (List ℕ)) (reads reads' writes writes' : ℕ) → Does task code left left' written written' reads reads' writes writes'
-    → task.reads ≡ true → (b : List ℕ) → left ≡ Some b → ((refused : List ℕ) → task.wrong b refused ≡ None)
-    → ((refused : List ℕ) → Wrote (task.whole b refused) written written' → task.ended b refused ≡ true) → (Rose reads reads' → ⊥) → (Rose writes writes' → ⊥) → (code ≡ NO_MEMORY → ⊥) → code ≡ ENDED
-ends_in_order task code left left' written written' reads reads' writes writes' does reading b tells right ends no_read no_write memory =
+-- it ended in order
+pub ends_in_order : (order : Order) (code : ℕ) (left left' written written' : Option (List ℕ)) (reads reads' writes writes' : ℕ) → Does (task_of order) code left left' written written' reads reads' writes writes'
+    → (task_of order).reads ≡ true → (b text : List ℕ) → left ≡ Some b → (task_of order).wrong b ≡ None → (task_of order).ended b [] ≡ true → written ≡ Some text
+    → written' ≡ Some (text ++ (task_of order).whole b []) → (Rose reads reads' → ⊥) → (Rose writes writes' → ⊥) → (code ≡ NO_MEMORY → ⊥) → code ≡ ENDED
+ends_in_order order code left left' written written' reads reads' writes writes' does reading b text tells right in_order before after no_read no_write memory =
     elim (does.complete b tells right no_read no_write memory) [
       | inl ended ↦ ended
-      | inr disorder ↦ absurd (disorder_is_told task b left left' written written' reading tells (does.in_disorder disorder) ends)
+      | inr disorder ↦ absurd (never_in_disorder order b text left left' written written' reading tells before after in_order (does.in_disorder disorder))
     ]

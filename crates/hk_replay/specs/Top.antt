@@ -3,7 +3,7 @@ use Rattle.std.specs.Prelude.{◌≡◌, ◌≤◌, ◌⊎◌, ℕ, List, String
 use Rattle.std.specs.Option.{IfSome}
 use Rattle.hk_base.specs.Devices.{Rose}
 use Rattle.hk_spec_runs.specs.Words.{Order, Replay, Print, Make, order_of}
-use Rattle.hk_spec_runs.specs.Outcome.{Task, task_of, Trades, IsWhole, IsStopped, IsUnread, IsUnwritten}
+use Rattle.hk_spec_runs.specs.Outcome.{Task, task_of, Trades, IsWhole, IsStopped, IsReadFault, IsWriteFault}
 use Rattle.hk_words.specs.Options.{texts}
 
 -- what an order makes of an input; to make an input is no command of this program yet
@@ -56,13 +56,16 @@ pub record Does (task : Task) (code : ℕ) (left left' written written' : Option
   pub known : IsTaskStatus code
   pub reads_count : reads ≤ reads'
   pub writes_count : writes ≤ writes'
+  pub no_memory_unread : code ≡ NO_MEMORY → left' ≡ left
   pub no_memory_unwritten : code ≡ NO_MEMORY → written' ≡ written
   pub ended : code ≡ ENDED → Trades left left' written written' (IsWhole task left' true)
   pub in_disorder : code ≡ IN_DISORDER → Trades left left' written written' (IsWhole task left' false)
-  pub read_fault : code ≡ READ_FAULT → Trades left left' written written' (IsUnread task)
-  pub write_fault : code ≡ WRITE_FAULT → Trades left left' written written' (IsUnwritten task (Rose reads reads') left')
+  pub read_fault : code ≡ READ_FAULT → Trades left left' written written' (IsReadFault task)
+  pub write_fault : code ≡ WRITE_FAULT → Trades left left' written written' (IsWriteFault task (Rose reads reads') left')
   pub stopped : code ≡ STOPPED → Trades left left' written written' (IsStopped task left')
   pub read_fault_cause : code ≡ READ_FAULT → Rose reads reads'
   pub write_fault_cause : code ≡ WRITE_FAULT → Rose writes writes'
-  pub complete : (b : List ℕ) → left ≡ Some b → ((refused : List ℕ) → task.wrong b refused ≡ None) → (Rose reads reads' → ⊥) → (Rose writes writes' → ⊥)
+  pub no_read_failed : (code ≡ READ_FAULT → ⊥) → (code ≡ WRITE_FAULT → ⊥) → reads' ≡ reads
+  pub no_write_failed : (code ≡ WRITE_FAULT → ⊥) → writes' ≡ writes
+  pub complete : (b : List ℕ) → left ≡ Some b → task.wrong b ≡ None → (Rose reads reads' → ⊥) → (Rose writes writes' → ⊥)
       → (code ≡ NO_MEMORY → ⊥) → (code ≡ ENDED) ⊎ (code ≡ IN_DISORDER)

@@ -7,6 +7,8 @@
 #[cfg(test)]
 mod devices;
 #[cfg(test)]
+mod fences;
+#[cfg(test)]
 mod operators;
 #[cfg(test)]
 mod played;

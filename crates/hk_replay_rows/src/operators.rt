@@ -165,9 +165,10 @@ fn ending_otherwise(alloc: Global, cases: &[(&str, &[u8], &str)]) -> Result<Stri
 #[test]
 fn each_fault_of_the_operator_ends_it(rt: HostRuntime) -> Result<(), Fail> {
     let alloc = rt.alloc();
-    let cases: [(&str, &[u8], &str); 24] = [
+    let cases: [(&str, &[u8], &str); 25] = [
         ("no byte", b"", "ended"),
         ("a wrong first letter", b"X", "bad-hello 0"),
+        ("a wrong second letter", b"HX", "bad-hello 1"),
         ("a station's hello", b"HKS1", "bad-hello 2"),
         ("a wrong last letter", b"HKO9", "bad-hello 3"),
         ("half a hello", b"HK", "cut 2"),

@@ -106,13 +106,6 @@ pub fn push_weak_prints(
     Ok(())
 }
 
-/// A fence packet.
-pub fn push_fence(out: &mut Vec<u8>, version: u32) -> Result<(), Fail> {
-    out.extend_from_slice(&[2, 0, 4])?;
-    out.extend_from_slice(&version.to_be_bytes())?;
-    Ok(())
-}
-
 /// A record of bytes for the operator.
 pub fn push_operator(out: &mut Vec<u8>, bytes: &[u8]) -> Result<(), Fail> {
     out.push(b'O')?;

@@ -1,5 +1,5 @@
 -- Fronts of a text, and texts written one after another.
-use Rattle.std.proofs.Common.{◌≡◌, ℕ, suc, ◌+◌, ◌-◌, ◌<◌, List, [], ◌∷◌, ◌++◌, Option, take, drop, get_or, length, sym, ◌∙◌, ap, subst, append_assoc, length-append, arith, length-drop}
+use Rattle.std.proofs.Common.{◌≡◌, ℕ, suc, ◌+◌, ◌-◌, ◌<◌, List, [], ◌∷◌, ◌++◌, Option, take, drop, get_or, length, sym, ◌∙◌, ap, subst, append_assoc, length-append, arith}
 use Rattle.std.specs.List.{flat_map}
 use Rattle.std.proofs.lemmas.List.{take_rest, take-append-drop, take_more, flat_map_more}
 use Rattle.std.proofs.lemmas.Grind.{flat_map-append}
@@ -20,19 +20,9 @@ front_then a b x y h = (h.0, h.1 ++ b, ap (λ t. t ++ b) h.2 ∙ append_assoc h.
 pub then_front : (a b : List ℕ) (x y z : Option (List ℕ)) → Wrote a x y → WroteFront b y z → WroteFront (a ++ b) x z
 then_front a b x y z whole h = (a ++ h.0, h.1, ap (λ t. a ++ t) h.2 ∙ sym (append_assoc a h.0 h.1), h.3, Wrote-append a h.0 x y z whole h.4)
 
--- the first i items of a text are a proper front, where there are more
-pub front_of : (text : List ℕ) (i : ℕ) (x y : Option (List ℕ)) → i < length text → Wrote (take i text) x y → WroteFront text x y
-front_of text i x y h w = (take i text, drop i text, sym (take-append-drop i text), omega (arith, length-drop {A = ℕ} i text), w)
-
 -- the texts of the first items, and of one more
 one_more : {X : Type 0} (f : X → List ℕ) (xs : List X) (i : ℕ) (d : X) → i < length xs → flat_map f (take i xs) ++ f (get_or xs i d) ≡ flat_map f (take (i + 1) xs)
 one_more f xs i d h = flat_map_more f [] (take i xs) (get_or xs i d) ∙ ap (flat_map f) (sym (take_more xs i d h))
-
--- the texts of the first items were written, and then that of the next
-pub whole_at : {X : Type 0} (f : X → List ℕ) (xs : List X) (i : ℕ) (d : X) (x y z : Option (List ℕ)) → i < length xs
-    → Wrote (flat_map f (take i xs)) x y → Wrote (f (get_or xs i d)) y z → Wrote (flat_map f (take (i + 1) xs)) x z
-whole_at f xs i d x y z h first second =
-    subst (λ text. Wrote text x z) (one_more f xs i d h) (Wrote-append (flat_map f (take i xs)) (f (get_or xs i d)) x y z first second)
 
 -- the texts of the first items were written, and then a front of that of the next
 pub torn_at : {X : Type 0} (f : X → List ℕ) (xs : List X) (i : ℕ) (d : X) (x y z : Option (List ℕ)) → i < length xs

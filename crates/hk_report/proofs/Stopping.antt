@@ -1,5 +1,5 @@
 -- Where texts of a kind go wrong, from part to part.
-use Rattle.std.proofs.Common.{◌≡◌, ℕ, ◌+◌, ◌^◌, ◌<◌, ◌≤◌, inl, inr, List, [], ◌∷◌, ◌++◌, length, refl, sym, ◌∙◌, ap, subst, append_assoc, arith, Result, Ok, Err, IfErr}
+use Rattle.std.proofs.Common.{◌≡◌, ℕ, ◌+◌, ◌^◌, ◌<◌, ◌≤◌, inl, inr, List, [], ◌∷◌, ◌++◌, refl, sym, ◌∙◌, ap, subst, append_assoc, arith, Result, Ok, Err, IfErr}
 use Rattle.std.specs.Result.{IsErrAnd}
 use Rattle.std.specs.Fmt.{decimal}
 use Rattle.std.proofs.lemmas.List.{append_cancel_left}
@@ -162,10 +162,3 @@ pub stops_after_field : (K : List ℕ → Type 0) (word : List ℕ) (most n : �
 stops_after_field K word most n text rest left fits follows small e cut s =
     stops_behind (Numeral most K) word text (decimal n ++ rest) left (e ∙ append_assoc word (decimal n) rest)
     (stops_after_number K most n (decimal n ++ rest) rest left fits follows small refl cut s)
-
-pub differs_at_end : (c : ℕ) (left : List ℕ) → length left ≡ 0 → Differs c left
-differs_at_end c [] none = tt
-differs_at_end c (d ∷ left) none = absurd (omega arith)
-
-pub differs_from : (c d : ℕ) (left rest : List ℕ) → left ≡ d ∷ rest → (d ≡ c → ⊥) → Differs c left
-differs_from c d left rest e other = subst (Differs c) (sym e) other

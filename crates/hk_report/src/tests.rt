@@ -79,6 +79,20 @@ fn a_report_line(rt: HostRuntime) -> Result<(), Fail> {
 }
 
 #[test]
+fn a_line_of_one_match(rt: HostRuntime) -> Result<(), Fail> {
+    let (head, items) = read_line(rt.alloc(), b"S 0 B 0 G 0 W 0 V 1: 7@0~0\n")?;
+    let first = Match {
+        id: 7,
+        start: 0,
+        errors: 0,
+    };
+    assert_eq!(rt; (head.station, head.block, head.segment), (0, 0, 0));
+    assert_eq!(rt; (head.first, head.version, items.len()), (0, 1, 1));
+    assert_eq!(rt; items[0], first);
+    Ok(())
+}
+
+#[test]
 fn the_greatest_numbers(rt: HostRuntime) -> Result<(), Fail> {
     let text =
         b"S 255 B 18446744073709551615 G 18446744073709551615 W 18446744073709551615 V 4294967295: 4294967295@4294967295~4294967295\n";

@@ -5,7 +5,7 @@ use Rattle.std.specs.Option.{option_map_or}
 use Rattle.std.proofs.lemmas.List.Sums.{fold-append}
 use Rattle.hk_base.specs.declared.plain.Trouble.{Trouble}
 use Rattle.hk_spec_streams.specs.Records.{Arrival, ForStation, ForOperator, arrivals, arrival_after, arrival_in, head_size, input_met, open_bytes}
-use Rattle.hk_spec_streams.proofs.Completing.{completed-append}
+use Rattle.hk_spec_streams.proofs.Completed.{completed-more}
 use Rattle.hk_spec_streams.proofs.GrowingRecords.{arrivals-append}
 use Rattle.hk_spec_runs.specs.Desk.{Rules}
 use Rattle.hk_spec_runs.specs.Replay.{opening, arrived}
@@ -18,13 +18,6 @@ use Rattle.hk_run.specs.Course.{scene_after}
 -- what a byte is, by its fault and by whether it arrives
 came_of : Arrival → Option Trouble → Bool → Came
 came_of a met t = option_map_or (λ trouble. came.Bad trouble) met (option_map_or told (slice_get (cond t (a ∷ []) []) 0) came.Head)
-
-if_bad : (a : Arrival) (met : Option Trouble) (t : Bool) (trouble : Trouble) → came_of a met t ≡ came.Bad trouble → met ≡ Some trouble
-unfolding came_of
-if_bad a (Some other) t trouble is = let same : other ≡ trouble = cc in ap (λ x. Some x) same
-if_bad (ForStation k c) None true trouble is = cc
-if_bad (ForOperator c) None true trouble is = cc
-if_bad a None false trouble is = cc
 
 if_head : (a : Arrival) (met : Option Trouble) (t : Bool) → came_of a met t ≡ came.Head → (met ≡ None) × (cond t (a ∷ []) [] ≡ [])
 unfolding came_of
@@ -58,13 +51,10 @@ module _ (rules : Rules) (text : List ℕ) (b : ℕ) where
       ≡ came_of (arrival_in (open_bytes text) b) (input_met rules.stations rules.bytes (text ++ b ∷ [])) (nat_le (head_size (open_bytes text)) (length (open_bytes text)))
   unfolding came_of
   came_is = ap (λ xs. option_map_or (λ trouble. came.Bad trouble) (input_met rules.stations rules.bytes (text ++ b ∷ [])) (option_map_or told (slice_get xs 0) came.Head))
-      (completed-append arrivals text b (arrival_after (open_bytes text) b) (arrivals-append text b))
+      (completed-more arrivals text b (arrival_after (open_bytes text) b) (arrivals-append text b))
 
   scene_is : (refused : List ℕ) (news : List Arrival) → arrival_after (open_bytes text) b ≡ news → scene_after rules refused (text ++ b ∷ []) ≡ fold (arrived rules refused) (scene_after rules refused text) news
   scene_is refused news is = scene_after-append rules refused text b ∙ ap (fold (arrived rules refused) (scene_after rules refused text)) is
-
-  pub came_bad : (trouble : Trouble) → came_at rules.stations rules.bytes (text ++ b ∷ []) ≡ came.Bad trouble → input_met rules.stations rules.bytes (text ++ b ∷ []) ≡ Some trouble
-  came_bad trouble is = if_bad _ _ _ trouble (sym came_is ∙ is)
 
   pub came_head : came_at rules.stations rules.bytes (text ++ b ∷ []) ≡ came.Head
       → (input_met rules.stations rules.bytes (text ++ b ∷ []) ≡ None) × ((refused : List ℕ) → scene_after rules refused (text ++ b ∷ []) ≡ scene_after rules refused text)

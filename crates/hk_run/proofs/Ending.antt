@@ -1,22 +1,18 @@
 -- The summary's lines of the stations, one after another.
-use Rattle.std.proofs.Common.{◌≡◌, ℕ, zero, suc, ◌+◌, ◌<◌, List, [], ◌∷◌, ◌++◌, length, take, drop, refl, sym, ◌∙◌, ap, subst, arith, append-nil, append_assoc, Bool, true, false, Option, Some, None}
+use Rattle.std.proofs.Common.{◌≡◌, ℕ, zero, suc, ◌+◌, ◌<◌, List, [], ◌∷◌, ◌++◌, length, take, drop, refl, sym, ◌∙◌, ap, subst, arith, append-nil, append_assoc, Bool, true, false, Option, Some}
 use Rattle.std.specs.Prelude.{slice_get, slice_set, flat_map, ◌&&◌, is_none, unwrap_or}
-use Rattle.std.specs.Option.{option_map_or}
 use Rattle.std.specs.List.{enumerate_from, list_all}
 use Rattle.std.proofs.lemmas.List.{take-append-drop, length-take-le}
 use Rattle.std.proofs.lemmas.List.Folds.{list_all-append}
 use Rattle.std.proofs.lemmas.List.Concat.{flat_map-append}
 use Rattle.std.proofs.lemmas.Option.{slice_get_within}
 use Rattle.hk_base.specs.Devices.{Wrote}
-use Rattle.hk_base.specs.declared.plain.End.{End}
-use Rattle.hk_base.specs.declared.plain.End.TheVariants as ends
-use Rattle.hk_base.specs.declared.plain.WireFault.{WireFault}
 use Rattle.hk_spec_streams.specs.Station.{station_wrong}
 use Rattle.hk_spec_streams.proofs.GrowingBlocks.{enumerate-append}
 use Rattle.hk_spec_runs.specs.Desk.{Rules}
-use Rattle.hk_spec_runs.specs.Replay.{Listener, end_of}
+use Rattle.hk_spec_runs.specs.Replay.{Listener}
 use Rattle.hk_report.specs.Fronts.{WroteFront}
-use Rattle.hk_run.specs.Course.{listener_line, lines_from, station_lines, is_ended, is_in_order, all_ended}
+use Rattle.hk_run.specs.Course.{listener_line, lines_from, station_lines, is_in_order, all_ended}
 use Rattle.hk_run.proofs.Finishing.{both_lines, first_torn, second_torn}
 
 module _ {A : Type 0} where
@@ -113,15 +109,3 @@ wrote_at rules l n i same u v wrote = let number : n ≡ i = omega (arith, same)
 
 pub front_at : (rules : Rules) (l : Listener) (n i : ℕ) → n ≡ 0 + i → (u v : Option (List ℕ)) → WroteFront (listener_line rules (n, l)) u v → WroteFront (listener_line rules (i, l)) u v
 front_at rules l n i same u v front = let number : n ≡ i = omega (arith, same) in subst (λ k. WroteFront (listener_line rules (k, l)) u v) number front
-
--- how a station ends, by whether it is over and what is wrong with its bytes
-module _ (rules : Rules) (l : Listener) where
-  by_wrong : (o : Option WireFault) → is_ended (option_map_or (λ fault. ends.Wire fault) o ends.Ended) ≡ is_none o
-  by_wrong None = refl
-  by_wrong (Some fault) = refl
-
-  pub in_order_by : (kept : Option End) → kept ≡ l.end → (end : End) → end ≡ end_of rules l → (is_none kept && is_ended end) ≡ is_in_order rules l
-  in_order_by None is end ends_so =
-      ap is_ended (ends_so ∙ ap (λ o. unwrap_or o (option_map_or (λ fault. ends.Wire fault) (station_wrong rules.bytes l.used) ends.Ended)) (sym is)) ∙ by_wrong (station_wrong rules.bytes l.used)
-      ∙ ap (λ o. is_none o && is_none (station_wrong rules.bytes l.used)) is
-  in_order_by (Some kept) is end ends_so = ap (λ o. is_none o && is_none (station_wrong rules.bytes l.used)) is

@@ -131,6 +131,16 @@ going_on (Over ends.ReadFault) P is told = told
 going_on (Over ends.GateFault) P is told = told
 going_on Going P is told = told
 
+-- the same where no write failed
+pub no_write_failed : (p : Progress) (P : Type 0) → (taken_of p ≡ takens.SinkFault → ⊥) → UnlessTorn p P → P
+no_write_failed (Over ends.SinkFault) P never told = absurd (never refl)
+no_write_failed (Over ends.Ended) P never told = told
+no_write_failed (Over (ends.Wire fault)) P never told = told
+no_write_failed (Over (ends.FenceAhead asked seen)) P never told = told
+no_write_failed (Over ends.ReadFault) P never told = told
+no_write_failed (Over ends.GateFault) P never told = told
+no_write_failed Going P never told = told
+
 pub torn_off : (p : Progress) (P : Type 0) → taken_of p ≡ takens.SinkFault → OnTorn p P → P
 torn_off (Over ends.SinkFault) P is told = told
 torn_off (Over ends.Ended) P is told = cc

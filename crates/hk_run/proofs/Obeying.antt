@@ -11,7 +11,7 @@ use Rattle.hk_base.specs.declared.plain.What.TheVariants.{Published, Refused}
 use Rattle.hk_base.specs.declared.plain.WireFault.{WireFault}
 use Rattle.hk_spec_streams.specs.Pieces.{completed, first_that_holds}
 use Rattle.hk_spec_streams.specs.Operator.{Command, Publish, commands, operator_met}
-use Rattle.hk_spec_streams.proofs.Completing.{completed-append}
+use Rattle.hk_spec_streams.proofs.Completed.{completed-more}
 use Rattle.hk_spec_streams.proofs.GrowingCommands.{commands-append}
 use Rattle.hk_spec_runs.specs.Desk.{Rules, Desk, answer, after, IsReply}
 use Rattle.hk_spec_runs.specs.Replay.{Clerk}
@@ -119,7 +119,7 @@ module _ (rules : Rules) (clerk : Clerk) (b : ℕ) where
   counts_by None (Some f) is = omega arith
   counts_by None None is =
       let more = commands-append clerk.used b in
-      ap (λ cs. length (commands clerk.used) + length cs) (completed-append commands clerk.used b _ more)
+      ap (λ cs. length (commands clerk.used) + length cs) (completed-more commands clerk.used b _ more)
       ∙ sym (length-append (commands clerk.used) _) ∙ sym (ap length more)
 
   pub counts : length (commands clerk.used) + length (new_commands rules clerk b) ≡ length (commands (clerk_after rules clerk b).used)

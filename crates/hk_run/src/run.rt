@@ -92,6 +92,7 @@ impl Run {
             AddsSceneFront scene (arrived rules refused scene (ForStation number byte)) (K.written out.old) (K.written out.new)) }
         ensures cause { result ≡ Taken.SinkFault → Rose (K.faults out.old) (K.faults out.new) }
         ensures never_falls { K.faults out.old ≤ K.faults out.new }
+        ensures counts_failures { (result ≡ Taken.SinkFault → ⊥) → K.faults out.new ≡ K.faults out.old }
         ensures reader_stays { self.new.reader ≡ self.old.reader }
         ensures rules_stay { self.new.rules ≡ self.old.rules }
     {

@@ -19,6 +19,7 @@ fn write_end<K: Sink>(station: &mut Station, out: &mut K) -> Result<bool, Failed
     ensures torn { OnErr result (ForEach station.old (λ rules l. WroteFront (listener_line rules (number_of station.old, l)) (K.written out.old) (K.written out.new))) }
     ensures cause { OnErr result (Rose (K.faults out.old) (K.faults out.new)) }
     ensures never_falls { K.faults out.old ≤ K.faults out.new }
+    ensures counts_failures { OnOk result (K.faults out.new ≡ K.faults out.old) }
 {
     let blocks = station.blocks();
     let version = station.version();
@@ -43,6 +44,7 @@ pub fn write_stations<K: Sink>(stations: &mut [Station], out: &mut K) -> Result<
     ensures torn { OnErr result (ForListeners stations.old (λ rules listeners. WroteFront (station_lines rules listeners) (K.written out.old) (K.written out.new))) }
     ensures cause { OnErr result (Rose (K.faults out.old) (K.faults out.new)) }
     ensures never_falls { K.faults out.old ≤ K.faults out.new }
+    ensures counts_failures { OnOk result (K.faults out.new ≡ K.faults out.old) }
 {
     let mut all_ended = true;
     for station in stations.iter_mut() {

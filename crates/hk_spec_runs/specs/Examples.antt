@@ -1,12 +1,14 @@
 -- A small run for the worked examples: blocks of two prints, and songs of two words.
-use Rattle.std.specs.Prelude.{ℕ, List, [], ◌∷◌, ◌++◌, codes}
+use Rattle.std.specs.Prelude.{ℕ, List, [], ◌∷◌, ◌++◌, codes, Some}
 use Rattle.hk_spec_streams.specs.Examples as streams
+use Rattle.hk_base.specs.declared.plain.Form.{Form}
 use Rattle.hk_base.specs.declared.plain.What.{What}
 use Rattle.hk_spec_streams.specs.Operator.{Command, AddWords, OpenSong, Audio, Close, Withdraw, Publish}
 use Rattle.hk_base.specs.declared.plain.Match.{Match}
 use Rattle.hk_spec_streams.specs.Blocks.{Block}
 use Rattle.hk_spec_matching.specs.Catalogue.{Edit, Add}
-use Rattle.hk_spec_runs.specs.Desk.{Rules, Desk, answer, after}
+use Rattle.hk_spec_matching.specs.Catalogue as edits
+use Rattle.hk_spec_runs.specs.Desk.{Rules, Desk, new_desk, answer, after}
 
 abbrev pub SMALL : Rules
 SMALL = record { setting = streams.small; errors = 1; limits = record { songs = 2; positions = 6; versions = 2 }; stations = 1; bytes = 1000 }
@@ -23,6 +25,17 @@ STATION_BYTES = streams.prints_hello ++ streams.print_packet 5 0 ++ streams.prin
 abbrev pub TIGHT : Rules
 TIGHT = record SMALL { limits = record { songs = 2; positions = 4; versions = 2 } }
 
+abbrev pub MONO : Form
+MONO = record { channels = 1; factor = 1 }
+
+-- song 3 is open and has sound
+abbrev pub SONG_3_OPEN : Desk
+SONG_3_OPEN = record new_desk { song = Some (record { id = 3; form = MONO; audio = 1 ∷ 0 ∷ [] }) }
+
+-- song 3 goes with the next publish
+abbrev pub SONG_3_STAGED : Desk
+SONG_3_STAGED = record new_desk { staged = edits.Withdraw 3 ∷ [] }
+
 -- the answers to commands one after another
 abbrev pub answers : Rules → Desk → List Command → List What
 answers rules desk [] = []
@@ -32,7 +45,7 @@ answers rules desk (command ∷ commands) = answer rules desk command ∷ answer
 abbrev pub COMMANDS : List Command
 COMMANDS =
     AddWords 1 (5 ∷ 6 ∷ []) ∷ AddWords 1 (5 ∷ 6 ∷ []) ∷ AddWords 2 (5 ∷ []) ∷ Withdraw 9 ∷ AddWords 2 (5 ∷ 6 ∷ 7 ∷ []) ∷ AddWords 2 (5 ∷ 6 ∷ [])
-    ∷ AddWords 3 (5 ∷ 6 ∷ []) ∷ Close ∷ OpenSong 3 (record { channels = 1; factor = 1 }) ∷ OpenSong 4 (record { channels = 1; factor = 1 })
+    ∷ AddWords 3 (5 ∷ 6 ∷ []) ∷ Close ∷ OpenSong 3 MONO ∷ OpenSong 4 MONO
     ∷ Audio [] ∷ Close ∷ Publish ∷ Publish ∷ Publish ∷ []
 
 -- a batch with song 7, a block of its words, and what is found of it

@@ -15,13 +15,14 @@ use Rattle.hk_spec_runs.specs.Replay.{Scene, scene_of, out, replay}
 use Rattle.hk_spec_runs.specs.Words.{Order, Replay, Print, Make, Printing}
 use Rattle.hk_spec_runs.specs.Make.{make_line}
 
--- What an order makes of the input's bytes. The last argument of a text lists the commands that were refused for memory.
+-- What an order makes of the input's bytes. The last argument of a text, and of its end, lists the commands that were refused for
+-- memory.
 pub record Task : Type 0 where
   -- whether it reads its input at all
   pub reads : Bool
   -- the fault that a byte meets, and what is wrong with the whole input
-  pub met : List ℕ → List ℕ → Option Trouble
-  pub wrong : List ℕ → List ℕ → Option Trouble
+  pub met : List ℕ → Option Trouble
+  pub wrong : List ℕ → Option Trouble
   -- the text up to the fault or the end, and all of the text where nothing is wrong
   pub text : List ℕ → List ℕ → List ℕ
   pub whole : List ℕ → List ℕ → List ℕ
@@ -43,24 +44,24 @@ print_text p input = flat_map (λ n. print_line n.0 n.1) (enumerate_from 0 (prin
 abbrev pub task_of : Order → Task
 task_of (Replay rules) = record {
   reads = true;
-  met = λ input refused. input_fault rules.stations rules.bytes input;
-  wrong = λ input refused. input_wrong rules.stations rules.bytes input;
+  met = input_fault rules.stations rules.bytes;
+  wrong = input_wrong rules.stations rules.bytes;
   text = out rules;
   whole = replay rules;
   ended = λ input refused. has_ended rules (scene_of rules input refused);
 }
 task_of (Print p) = record {
   reads = true;
-  met = λ input refused. over_limit p input;
-  wrong = λ input refused. over_limit p input;
+  met = over_limit p;
+  wrong = over_limit p;
   text = λ input refused. print_text p input;
   whole = λ input refused. print_text p input;
   ended = λ input refused. true;
 }
 task_of (Make seed rules) = record {
   reads = false;
-  met = λ input refused. None;
-  wrong = λ input refused. None;
+  met = λ input. None;
+  wrong = λ input. None;
   text = λ input refused. make_line rules seed;
   whole = λ input refused. make_line rules seed;
   ended = λ input refused. true;
@@ -75,7 +76,7 @@ pub record IsWhole (task : Task) (rest : Option (List ℕ)) (in_order : Bool) (b
   pub to_the_end : task.reads ≡ true → IsNothing rest
   pub unread : task.reads ≡ false → b ≡ []
   pub refused : List ℕ
-  pub right : task.wrong b refused ≡ None
+  pub right : task.wrong b ≡ None
   pub text : o ≡ task.whole b refused
   pub ended : task.ended b refused ≡ in_order
 
@@ -83,22 +84,22 @@ pub record IsWhole (task : Task) (rest : Option (List ℕ)) (in_order : Bool) (b
 pub record IsStopped (task : Task) (rest : Option (List ℕ)) (b o : List ℕ) : Type 0 where
   pub trouble : Trouble
   pub refused : List ℕ
-  pub first : task.wrong b refused ≡ Some trouble
-  pub at_the_end : task.met b refused ≡ None → IsNothing rest
+  pub first : task.wrong b ≡ Some trouble
+  pub at_the_end : task.met b ≡ None → IsNothing rest
   pub text : o ≡ task.text b refused ++ trouble_line trouble
 
 -- Reading failed, at bytes that have no fault.
-pub record IsUnread (task : Task) (b o : List ℕ) : Type 0 where
+pub record IsReadFault (task : Task) (b o : List ℕ) : Type 0 where
   pub reads : task.reads ≡ true
   pub refused : List ℕ
-  pub no_fault : task.met b refused ≡ None
+  pub no_fault : task.met b ≡ None
   pub text : o ≡ task.text b refused ++ trouble_line ReadFault
 
 -- Writing failed: what was written begins the text so far, or one of the texts above; the last only where reading failed too.
-pub record IsUnwritten (task : Task) (read_failed : Type 0) (rest : Option (List ℕ)) (b o : List ℕ) : Type 0 where
+pub record IsWriteFault (task : Task) (read_failed : Type 0) (rest : Option (List ℕ)) (b o : List ℕ) : Type 0 where
   pub unread : task.reads ≡ false → b ≡ []
   pub more : List ℕ
   pub text : ((refused : List ℕ) × (o ++ more ≡ task.text b refused))
       ⊎ ((in_order : Bool) × IsWhole task rest in_order b (o ++ more))
       ⊎ IsStopped task rest b (o ++ more)
-      ⊎ (read_failed × IsUnread task b (o ++ more))
+      ⊎ (read_failed × IsReadFault task b (o ++ more))

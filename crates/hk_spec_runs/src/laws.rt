@@ -4,21 +4,21 @@ ghost use Rattle.hk_base.specs.declared.plain.Reason.TheVariants as reasons;
 ghost use Rattle.hk_base.specs.declared.plain.What.TheVariants as whats;
 ghost use Rattle.hk_base.specs.declared.plain.End.TheVariants as ends;
 ghost use Rattle.hk_base.specs.declared.plain.WireFault.TheVariants as faults;
-ghost use Rattle.hk_spec_runs.specs.Desk.{answer, new_desk};
+ghost use Rattle.hk_spec_runs.specs.Desk.{answer, after, new_desk};
 ghost use Rattle.hk_spec_runs.specs.History.{history, IsLegal, Published, Looked};
 ghost use Rattle.hk_spec_streams.specs.Operator.{OpenSong, Audio, Close, Publish};
 ghost use Rattle.hk_spec_runs.specs.Replay.{replay, out};
 ghost use Rattle.hk_spec_runs.specs.Make.{high_parts, played};
 ghost use Rattle.hk_spec_runs.specs.Words.{order_of, Print};
 ghost use Rattle.hk_spec_streams.specs.Examples.{prints_hello};
-ghost use Rattle.hk_spec_runs.specs.Examples.{SMALL, TIGHT, SONGS_7, BLOCK_5, FOUND_5, OPERATOR_BYTES, STATION_BYTES, COMMANDS, answers};
+ghost use Rattle.hk_spec_runs.specs.Examples.{SMALL, TIGHT, MONO, SONG_3_OPEN, SONG_3_STAGED, SONGS_7, BLOCK_5, FOUND_5, OPERATOR_BYTES, STATION_BYTES, COMMANDS, answers};
 
 /// Answers that need no catalogue.
 #[tactic(auto, unfolding(crate::specs::Desk::answer))]
 pub fn answer_examples()
     ensures no_song { answer SMALL new_desk Close ≡ whats.Refused reasons.NoSongOpen }
     ensures no_audio { answer SMALL new_desk (Audio []) ≡ whats.Refused reasons.NoSongOpen }
-    ensures open { answer SMALL new_desk (OpenSong 3 (record { channels = 1; factor = 1 })) ≡ whats.Done }
+    ensures open { answer SMALL new_desk (OpenSong 3 MONO) ≡ whats.Done }
     ensures first_version { answer SMALL new_desk Publish ≡ whats.Published 1 }
     ensures versions_full { answer SMALL (record new_desk { journal = [] ∷ [] ∷ [] }) Publish ≡ whats.Refused reasons.VersionsFull }
 {}
@@ -30,6 +30,15 @@ pub fn refusal_examples()
         ≡ whats.Done ∷ whats.Refused reasons.Duplicate ∷ whats.Refused reasons.Short ∷ whats.Refused reasons.Unknown ∷ whats.Refused reasons.PositionsFull ∷ whats.Done
         ∷ whats.Refused reasons.SongsFull ∷ whats.Refused reasons.NoSongOpen ∷ whats.Done ∷ whats.Refused reasons.SongOpen
         ∷ whats.Done ∷ whats.Refused reasons.Short ∷ whats.Published 1 ∷ whats.Published 2 ∷ whats.Refused reasons.VersionsFull ∷ [] }
+{}
+
+/// What stands after a command for which memory was wanted: sound and a close give the open song up, and else all stays.
+#[tactic(auto, unfolding(crate::specs::Desk::after))]
+pub fn no_memory_examples()
+    ensures open { after SMALL new_desk (OpenSong 3 MONO) (whats.Refused reasons.NoMemory) ≡ new_desk }
+    ensures audio { after SMALL SONG_3_OPEN (Audio (0 ∷ 0 ∷ [])) (whats.Refused reasons.NoMemory) ≡ new_desk }
+    ensures close { after SMALL SONG_3_OPEN Close (whats.Refused reasons.NoMemory) ≡ new_desk }
+    ensures publish { after SMALL SONG_3_STAGED Publish (whats.Refused reasons.NoMemory) ≡ SONG_3_STAGED }
 {}
 
 /// A whole replay from bytes to text: a song is published, and the station's one block is found in it.

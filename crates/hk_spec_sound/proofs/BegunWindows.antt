@@ -38,10 +38,6 @@ pub length-begun : {A : Type 0} (size step : ℕ) (xs : List A) → length (begu
 unfolding begun
 length-begun size step xs = length-drop (window_count size step (length xs) * step) xs
 
-pub begun-short : {A : Type 0} (size step : ℕ) (xs : List A) → 0 < step → step ≤ size → length (begun size step xs) < size
-begun-short size step xs some small =
-    omega (arith, length-begun size step xs, window_count-above size step (length xs) some, window_count-within size step (length xs) small)
-
 -- how many windows there are with one item more
 count_next : (size step n : ℕ) (b : Bool) → window_count size step (n + 1) ≡ window_count size step n + cond b 1 0 → 0 < step
     → (n + 1 ≡ window_count size step n * step + size → window_count size step (n + 1) ≡ window_count size step n + 1)

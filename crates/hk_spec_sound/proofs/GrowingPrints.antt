@@ -1,7 +1,7 @@
 -- A frame more: its energies, and the print of these and those before.
 use Rattle.std.proofs.Common.{◌≡◌, ℕ, ◌^◌, List, [], ◌∷◌, ◌++◌, map, refl, ◌∙◌, ap, Option, Some, None, ℤ}
 use Rattle.std.specs.Prelude.{option_map, option_to_list}
-use Rattle.std.proofs.lemmas.List.{append-nil, map-append}
+use Rattle.std.proofs.lemmas.List.{map-append}
 use Rattle.hk_base.specs.declared.plain.Print.{Print}
 use Rattle.hk_spec_sound.specs.Windows.{windows, adjacent, last_of}
 use Rattle.hk_spec_sound.specs.Prints.{Analysis, energies_of, frame_energies, differences, print_of, prints_of_samples}

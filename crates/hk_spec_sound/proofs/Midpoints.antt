@@ -1,7 +1,7 @@
 -- A point between two points of the quarter circle lies there too.
 use Rattle.std.proofs.Common.{◌≡◌, ℕ, zero, suc, ◌+◌, ◌*◌, ◌/◌, ◌^◌, ◌<◌, ◌≤◌, inl, inr, arith}
 use Rattle.std.proofs.lemmas.Bool.Decides.{leb_tells}
-use Rattle.std.proofs.lemmas.Nat.{mul-le, div_below, le-div}
+use Rattle.std.proofs.lemmas.Nat.{mul-le, le-div}
 use Rattle.hk_spec_sound.proofs.Roots.{IsRootOf}
 
 -- a part is no longer than the whole
@@ -32,12 +32,6 @@ root-positive x y r root some = elim (leb_tells 1 r) [
       let y_squared : y ≤ y * y = le_square y in
       omega (arith, squares, root.1, x_squared, y_squared, some))
 ]
-
--- moved out to the radius, a part is at most the radius
-pub moved_out-le : (x r : ℕ) → x ≤ r → 0 < r → (x * 2 ^ 30 + r / 2) / r ≤ 2 ^ 30
-moved_out-le x r low some =
-    let below : (x * 2 ^ 30 + r / 2) / r < 2 ^ 30 + 1 = div_below (x * 2 ^ 30 + r / 2) r (2 ^ 30 + 1) some (omega arith) in
-    omega (arith, below)
 
 -- and one of the parts is over 0
 pub moved_out-some : (x y r : ℕ) → r ≤ x + y → 0 < r → 0 < (x * 2 ^ 30 + r / 2) / r + (y * 2 ^ 30 + r / 2) / r

@@ -9,10 +9,11 @@ use Rattle.std.specs.Prelude.{flat_map, nat_lt}
 use Rattle.std.specs.List.{enumerate_from, range_with_len}
 use Rattle.hk_base.specs.declared.plain.Print.{Print}
 use Rattle.hk_spec_sound.specs.Windows.{windows, window, window_count, adjacent}
-use Rattle.hk_spec_sound.specs.Samples.{samples_of, mono_of, decimated, weighted_mean}
+use Rattle.hk_spec_sound.specs.Samples.{decimated, weighted_mean}
 use Rattle.hk_spec_sound.specs.Spectrum.{transform, energies}
 use Rattle.hk_spec_sound.specs.Prints.{Analysis, full_analysis, windowed, frame_energies, differences, print_of, prints_of_samples, prints_of_sound}
-use Rattle.hk_spec_streams.specs.Station.{sent_prints, segments, channels_of, factor_of, prints_of}
+use Rattle.hk_spec_sound.proofs.Silence.{windows-nil, samples_of-nil}
+use Rattle.hk_spec_streams.specs.Station.{segments, channels_of, factor_of, prints_of}
 use Rattle.hk_spec_streams.specs.Blocks.{Setting, Block, blocks, blocks_of_segment}
 
 pub enumerate-append : {A : Type 0} (n : ℕ) (xs ys : List A) → enumerate_from n (xs ++ ys) ≡ enumerate_from n xs ++ enumerate_from (n + length xs) ys
@@ -93,11 +94,6 @@ module _ (s : Setting) where
       ∙ ap (λ ps. old ++ blocks_of_segment s (length (segments text)) ps) (same_prints_in text longer [] same)
       ∙ ap (λ bs. old ++ bs) none ∙ append-nil old ∙ sym (blocks_are text)
 
--- no items have no window of some size
-pub no_windows : {A : Type 0} (size step : ℕ) → 0 < size → windows {A = A} size step [] ≡ []
-unfolding windows
-no_windows {A} size step some = ap (λ n. map (window {A = A} size step []) (range_with_len 0 n)) (ap (λ c. cond c 0 ((0 - size) / step + 1)) (lt-ltb 0 size some))
-
 one_window : (c : Bool) (size step : ℕ) → cond c 0 ((0 - size) / step + 1) < 2
 one_window true size step = omega arith
 one_window false size step =
@@ -120,12 +116,11 @@ no_more factor =
     ∙ length-map-range_with_len (window {A = ℤ} (2 * factor - 1) factor []) 0 (window_count (2 * factor - 1) factor 0)
 
 no_sound : (flips channels factor : ℕ) → prints_of_sound full_analysis flips (suc channels) factor [] ≡ []
-unfolding prints_of_sound samples_of decimated windows
+unfolding prints_of_sound decimated windows
 no_sound flips channels factor =
-    let none : windows {A = ℕ} (2 * suc channels) (2 * suc channels) [] ≡ [] = no_windows (2 * suc channels) (2 * suc channels) (omega arith) in
     let one : window_count (2 * factor - 1) factor 0 < 2 = one_window (nat_lt 0 (2 * factor - 1)) (2 * factor - 1) factor in
     let count : length (decimated factor []) < 2048 = omega (arith, one, no_more factor) in
-    ap (λ ws. prints_of_samples full_analysis flips (decimated factor (map (mono_of (suc channels)) ws))) none ∙ few_samples flips (decimated factor []) count
+    ap (λ samples. prints_of_samples full_analysis flips (decimated factor samples)) (samples_of-nil (suc channels) (omega arith)) ∙ few_samples flips (decimated factor []) count
 
 -- an empty segment has no print
 pub no_prints : (a : Analysis) → a ≡ full_analysis → (flips channels factor : ℕ) → prints_of a flips channels factor [] ≡ []
@@ -135,4 +130,4 @@ no_prints a full flips (suc channels) factor = ap (λ of. prints_of_sound of fli
 
 -- no print has no block
 pub no_blocks : (s : Setting) (n : ℕ) → 0 < s.block_size → blocks_of_segment s n [] ≡ []
-no_blocks s n some = ap (λ ws. map (λ w. record { segment = n; first = s.hop * w.0; prints = w.1 }) (enumerate_from 0 ws)) (no_windows s.block_size s.hop some)
+no_blocks s n some = ap (λ ws. map (λ w. record { segment = n; first = s.hop * w.0; prints = w.1 }) (enumerate_from 0 ws)) (windows-nil s.block_size s.hop some)

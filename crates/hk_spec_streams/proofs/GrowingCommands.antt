@@ -1,17 +1,16 @@
 -- An operator's text with one more byte: the command that the byte belongs to, and the one that it ends.
-use Rattle.std.proofs.Common.{◌≡◌, ℕ, suc, ◌+◌, ◌<◌, ◌≤◌, List, [], ◌∷◌, ◌++◌, length, take, drop, refl, sym, ◌∙◌, ap, arith, length-append, append-nil, Bool, true, false, inl, inr, Option, None, Some, cond, filter_map}
-use Rattle.std.specs.Prelude.{◌==◌, ◌||◌, ◌&&◌, nat_le, if◌then◌else◌, slice_index}
+use Rattle.std.proofs.Common.{◌≡◌, ℕ, ◌+◌, ◌≤◌, List, [], ◌∷◌, ◌++◌, length, drop, refl, sym, ◌∙◌, ap, arith, length-append, append-nil, false, inl, inr, Option, None, cond, filter_map}
+use Rattle.std.specs.Prelude.{◌==◌, ◌&&◌, nat_le, if◌then◌else◌, slice_index}
 use Rattle.std.specs.Int.{w32}
-use Rattle.std.specs.List.{cons_option, list_all}
+use Rattle.std.specs.List.{cons_option}
 use Rattle.std.proofs.lemmas.List.{drop_all}
 use Rattle.std.proofs.lemmas.List.Elements.{filter_map-append}
-use Rattle.std.proofs.lemmas.Bool.{or_parts, cases_lt, le-leb}
-use Rattle.std.proofs.lemmas.Bool.Decides.{eqb_tells}
+use Rattle.std.proofs.lemmas.Bool.{or_parts, cases_lt}
 use Rattle.hk_spec_streams.specs.Pieces.{Piece, pieces, is_whole, last_bytes}
 use Rattle.hk_spec_streams.specs.Grammar.{packets, packet_size, ends_at_start, kind_of, payload_of}
 use Rattle.hk_spec_streams.specs.Operator.{Command, operator_grammar, commands, command_for}
 use Rattle.hk_spec_streams.proofs.GrowingPieces.{no_pieces}
-use Rattle.hk_spec_streams.proofs.GrowingPackets.{Next, Begins, Goes, Last, next_behind, over, all_whole, last_bytes-append, last_bytes-next}
+use Rattle.hk_spec_streams.proofs.GrowingPackets.{Next, Begins, Goes, next_behind, over, all_whole, last_bytes-append, last_bytes-next}
 use Rattle.hk_spec_streams.proofs.PacketSize.{packet_size_32}
 
 -- how long a command is, by its first five bytes

@@ -1,6 +1,6 @@
 -- An input with one more byte: which record it belongs to, and whether it arrives at a stream.
-use Rattle.std.proofs.Common.{◌≡◌, ℕ, zero, suc, ◌+◌, ◌-◌, ◌<◌, ◌≤◌, List, [], ◌∷◌, ◌++◌, length, take, drop, map, refl, sym, ◌∙◌, ap, arith, subst, length-append, append-nil, Bool, true, false, inl, inr, Option, Some, None, cond}
-use Rattle.std.specs.Prelude.{◌==◌, nat_le, flat_map, slice_index, if◌then◌else◌}
+use Rattle.std.proofs.Common.{◌≡◌, ℕ, suc, ◌+◌, ◌-◌, ◌<◌, ◌≤◌, List, [], ◌∷◌, ◌++◌, length, take, drop, map, refl, sym, ◌∙◌, ap, arith, subst, length-append, append-nil, Bool, true, false, inl, inr, Some, None, cond}
+use Rattle.std.specs.Prelude.{◌==◌, nat_le, flat_map}
 use Rattle.std.specs.Int.{w16, from_be_bytes}
 use Rattle.std.specs.Option.{option_map_or}
 use Rattle.std.specs.List.{last_or}

@@ -14,8 +14,7 @@ use Rattle.hk_spec_streams.specs.Grammar.{packets, packet_size, kind_of, ends_at
 use Rattle.hk_spec_streams.specs.Station.{station_grammar, segments, data_of, DATA, GAP}
 use Rattle.hk_spec_streams.specs.LastPacket.{last_packet, last_byte, begins_gap, ends_with_data}
 use Rattle.hk_spec_streams.proofs.PacketSize.{packet_size_16}
-use Rattle.hk_spec_streams.proofs.NextFault.{by_bytes}
-use Rattle.hk_spec_streams.proofs.GrowingPackets.{last_bytes-le, all_whole, Next, Begins, Goes, next_behind, last_bytes-next, last_bytes-append, over, known}
+use Rattle.hk_spec_streams.proofs.GrowingPackets.{all_whole, Next, Begins, Goes, next_behind, last_bytes-next, last_bytes-append, over, known}
 
 -- no packet before the hello is there
 pub packets_short : (text : List ℕ) → length text ≤ 6 → packets station_grammar text ≡ []
@@ -31,21 +30,6 @@ next_packet text b h = next_behind (packet_size w16) packet_size_16 6 b text h
 pub last_packet-next : (text : List ℕ) (b : ℕ) → 6 ≤ length text
     → last_packet (text ++ b ∷ []) ≡ (if over (packet_size w16) (last_packet text) then b ∷ [] else last_packet text ++ b ∷ [])
 last_packet-next text b h = last_bytes-next (packet_size w16) (length text) b _ _ (next_packet text b h)
-
-shorter : (text : List ℕ) → packets station_grammar text ≡ [] → length (last_packet text) ≤ length text
-shorter text none = let zero_long : length (last_packet text) ≡ 0 = ap (λ ps. length (last_bytes ps)) none in omega (arith, zero_long)
-
--- the last packet isn't longer than the text
-pub last_packet-le : (text : List ℕ) → length (last_packet text) ≤ length text
-last_packet-le = by_bytes (λ text. length (last_packet text) ≤ length text) (shorter [] (packets_short [] (omega arith))) (λ text b before. elim (leb_tells 6 (length text)) [
-  | inr early ↦
-      let long : length (text ++ b ∷ []) ≡ length text + 1 = length-append text (b ∷ []) in
-      shorter (text ++ b ∷ []) (packets_short (text ++ b ∷ []) (omega (arith, long, early.1)))
-  | inl late ↦
-      let long : length (text ++ b ∷ []) ≡ length text + 1 = length-append text (b ∷ []) in
-      let most : length (last_packet (text ++ b ∷ [])) ≤ length text + 1 = last_bytes-le (packet_size w16) (length text) b _ _ (next_packet text b late.1) in
-      omega (arith, most, long)
-])
 
 pub last_byte-append : (text : List ℕ) (b : ℕ) → last_byte (text ++ b ∷ []) ≡ b
 last_byte-append text b =
@@ -105,9 +89,6 @@ parts_of p (y ∷ ys) =
       }
       | inr stays ↦ onto_parts p y ys stays later.front later.part later.is later.joins later.begins
     ]
-
-is_gap : Piece → Bool
-is_gap packet = kind_of packet == GAP
 
 abbrev segments_of : List Piece → List (List ℕ)
 segments_of ps = map (flat_map data_of) (slice_split (λ packet. kind_of packet == GAP) ps)

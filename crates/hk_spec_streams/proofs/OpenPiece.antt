@@ -1,14 +1,13 @@
 -- The piece that a text leaves open: the next byte goes to it, and begins a new piece where there is none.
-use Rattle.std.proofs.Common.{◌≡◌, ℕ, zero, suc, ◌+◌, ◌-◌, ◌<◌, ◌≤◌, List, [], ◌∷◌, ◌++◌, length, take, drop, refl, sym, ◌∙◌, ap, arith, length-append, append_assoc, append-nil, Bool, true, false, inl, inr, Option, Some, None, cond}
+use Rattle.std.proofs.Common.{◌≡◌, ℕ, zero, suc, ◌+◌, ◌-◌, ◌<◌, ◌≤◌, List, [], ◌∷◌, ◌++◌, length, take, drop, refl, sym, ◌∙◌, ap, arith, length-append, append_assoc, append-nil, true, false, inl, inr, Option, Some, None, cond}
 use Rattle.std.specs.Prelude.{◌&&◌, flat_map, ◌==◌}
 use Rattle.std.specs.Option.{option_map_or}
 use Rattle.std.specs.List.{list_all, last_or}
 use Rattle.std.proofs.lemmas.List.{length-drop, length-take-le}
-use Rattle.std.proofs.lemmas.List.Folds.{list_all-append}
 use Rattle.std.proofs.lemmas.List.Concat.{flat_map-append}
 use Rattle.std.proofs.lemmas.Bool.{eq-eqb, and_parts}
 use Rattle.std.proofs.lemmas.Bool.Decides.{leb_tells, eqb_tells}
-use Rattle.hk_spec_streams.specs.Pieces.{Piece, pieces, pieces_within, is_whole, last_bytes}
+use Rattle.hk_spec_streams.specs.Pieces.{Piece, pieces_within, is_whole, last_bytes}
 use Rattle.hk_spec_streams.proofs.GrowingPieces.{IsSize, no_pieces, one_piece, first_stays}
 
 -- the open piece, where some of its bytes are there

@@ -6,7 +6,7 @@ use Rattle.hk_base.specs.declared.plain.Print.{Print}
 use Rattle.hk_base.specs.declared.plain.Form.{Form}
 use Rattle.hk_spec_streams.specs.Pieces.{last_bytes}
 use Rattle.hk_spec_streams.specs.Grammar.{packets}
-use Rattle.hk_spec_streams.specs.Station.{station_grammar, segments, sent_prints, channels_of, factor_of, DATA, FENCE, GAP}
+use Rattle.hk_spec_streams.specs.Station.{station_grammar, segments, sent_prints, channels_of, factor_of, DATA, GAP}
 
 -- the bytes of the last packet that are there
 abbrev pub last_packet : List ℕ → List ℕ
@@ -30,10 +30,6 @@ gap_is_open text = (slice_index (last_packet text) 0 == GAP) && nat_lt (length (
 -- a payload byte of a data packet
 abbrev pub ends_with_data : List ℕ → Bool
 ends_with_data text = (slice_index (last_packet text) 0 == DATA) && nat_lt 3 (length (last_packet text))
-
--- the last byte of a fence
-abbrev pub ends_fence : List ℕ → Bool
-ends_fence text = (slice_index (last_packet text) 0 == FENCE) && (length (last_packet text) == 7)
 
 -- the prints that were sent, segment after segment
 abbrev pub all_sent_prints : List ℕ → List Print

@@ -11,7 +11,7 @@ use Rattle.hk_base.specs.declared.plain.End.TheVariants as ends
 use Rattle.hk_spec_streams.specs.Pieces.{completed}
 use Rattle.hk_spec_streams.specs.Station.{station_met, fences, Fence}
 use Rattle.hk_spec_streams.specs.Blocks.{Block, blocks}
-use Rattle.hk_spec_streams.proofs.Completing.{completed-append}
+use Rattle.hk_spec_streams.proofs.Completed.{completed-more}
 use Rattle.hk_spec_matching.specs.Catalogue.{Songs}
 use Rattle.hk_spec_lines.specs.Lines.{line, printed_text}
 use Rattle.hk_spec_runs.specs.Desk.{Rules}
@@ -75,10 +75,10 @@ module _ (rules : Rules) (v : ℕ) (l : Listener) (b : ℕ) (going : l.end ≡ N
   t = l.used ++ b ∷ []
 
   blocks_completed : completed (blocks rules.setting) (l.used ++ b ∷ []) ≡ more
-  blocks_completed = completed-append (blocks rules.setting) l.used b more brings.more_blocks
+  blocks_completed = completed-more (blocks rules.setting) l.used b more brings.more_blocks
 
   fences_completed : completed fences (l.used ++ b ∷ []) ≡ fences_at (length l.used) asks
-  fences_completed = completed-append fences l.used b (fences_at (length l.used) asks) brings.more_fences
+  fences_completed = completed-more fences l.used b (fences_at (length l.used) asks) brings.more_fences
 
   asked_are : (place : ℕ) (asks : List ℕ) → map (λ fence. fence.asked) (fences_at place asks) ≡ asks
   asked_are place [] = refl

@@ -48,6 +48,22 @@ pub record Looked (limit : ℕ) (text : List ℕ) (b : ℕ) (reader : Reader) (p
   pub kind_is : kind ≡ slice_index (last_packet (text ++ b ∷ [])) 0
   pub length_is : packet_length ≡ length_in Two (last_packet (text ++ b ∷ []))
 
+-- what the packet's own calls say of it
+pub looked : (limit : ℕ) (text : List ℕ) (b : ℕ) (reader : Reader) (place count kind packet_length : ℕ) → place ≡ length text → 6 ≤ place → place < limit → HasByte reader text b
+    → ((bytes : List ℕ) → IsLast reader.packet bytes → count ≡ length bytes)
+    → ((bytes : List ℕ) → IsLast reader.packet bytes → kind ≡ slice_index bytes 0)
+    → ((bytes : List ℕ) → IsLast reader.packet bytes → packet_length ≡ length_in (length_size reader.packet) bytes)
+    → Looked limit text b reader place count kind packet_length
+looked limit text b reader place count kind packet_length at late room has counts kinds lengths = record {
+  at = at;
+  late = late;
+  room = room;
+  has = has;
+  count_is = counts _ has.packet;
+  kind_is = kinds _ has.packet;
+  length_is = lengths _ has.packet ∙ ap (λ size. length_in size (last_packet (text ++ b ∷ []))) reader.short_lengths;
+}
+
 module _ (limit : ℕ) (text : List ℕ) (b : ℕ) (reader : Reader) (place count kind packet_length : ℕ) (look : Looked limit text b reader place count kind packet_length) where
   -- what the byte meets
   met : station_met limit (text ++ b ∷ []) ≡ option_or (head_fault place count kind packet_length) (cond (bad_print (text ++ b ∷ [])) (Some (BadMask place)) None)

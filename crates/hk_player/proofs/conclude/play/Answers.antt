@@ -1,6 +1,6 @@
-use Rattle.std.proofs.Common.{◌≡◌, List, ℕ, refl, sym, ◌∙◌, ap, subst, arith, true, false, inl, inr}
+use Rattle.std.proofs.Common.{List, ℕ, refl, sym, ◌∙◌, ap, subst, arith, true, false, inl, inr}
 use Rattle.hk_base.specs.Devices.{Rose}
-use Rattle.hk_spec_runs.specs.Outcome.{Trades, IsWhole, IsStopped, IsUnread, IsUnwritten}
+use Rattle.hk_spec_runs.specs.Outcome.{Trades, IsWhole, IsStopped, IsReadFault, IsWriteFault}
 use Rattle.hk_spec_streams.specs.Pieces.{fault_of}
 use Rattle.hk_player.specs.Course.{Course, task_of_course}
 use Rattle.hk_player.proofs.Endings.{whole_end, wrong_end, unread, left, with_line, with_front, torn_text, torn_whole, torn_stop, torn_read, stays_right}
@@ -60,7 +60,7 @@ returns-in-End-clause-write_fault g c = λ is.
     let text = played.1.4.2 ∙ ap (λ (k : Course). k.printed r b) (sym same) in
     let rest = g.S.Source.left c.play_input.new.input in
     let failed = Rose (g.S.Source.faults c.args.input.now) (g.S.Source.faults c.play_input.new.input) in
-    subst (λ (k : Course). Trades (g.S.Source.left c.args.input.now) rest (g.K.Sink.written c.args.out.now) (g.K.Sink.written c.end.new.out) (IsUnwritten (task_of_course k) failed rest)) same
+    subst (λ (k : Course). Trades (g.S.Source.left c.args.input.now) rest (g.K.Sink.written c.args.out.now) (g.K.Sink.written c.end.new.out) (IsWriteFault (task_of_course k) failed rest)) same
     (elim (c.end.ensures.torn is r b played.1.4.1) [
       | inl wrong ↦ with_front b o _ _ _ _ _ _ played.1.2 played.1.3 (IsStopped (task_of_course course) rest) _ wrong.2
           (wrong_end course r b o rest form text wrong.0 played.0 wrong.1) (λ o' missing holds. torn_stop course _ _ b o' missing holds)
@@ -104,7 +104,7 @@ returns-in-ReadFault-clause-write_fault g c = λ is.
     let b : List ℕ = played.0 in
     let o : List ℕ = played.1 in
     let form = (g.met.P.Player.in_form c.play_input.new.player played.4.0 b played.4.1).0 in
-    with_front b o _ _ _ _ _ _ played.2 played.3 (IsUnread (task_of_course course)) _ (c.tell-in-ReadFault.ensures.torn is)
+    with_front b o _ _ _ _ _ _ played.2 played.3 (IsReadFault (task_of_course course)) _ (c.tell-in-ReadFault.ensures.torn is)
     (unread course played.4.0 b o (g.S.Source.left c.play_input.new.input) (ap (λ (k : Course). fault_of k.met b) (sym same) ∙ form) played.4.2)
     (λ o' missing holds. torn_read course _ _ b o' missing (c.in-ReadFault.ensures.read_cause refl) holds)
 

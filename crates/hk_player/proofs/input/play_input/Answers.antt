@@ -1,4 +1,4 @@
-use Rattle.std.proofs.Common.{◌≡◌, ◌≤◌, ◌+◌, ◌++◌, [], List, ℕ, Option, length, take, refl, sym, ◌∙◌, ap, subst, arith, length-append}
+use Rattle.std.proofs.Common.{◌≡◌, ◌≤◌, ◌+◌, ◌++◌, [], List, ℕ, length, take, refl, sym, ◌∙◌, subst, arith, length-append}
 use Rattle.hk_base.proofs.Taking.{Took-nothing}
 use Rattle.hk_player.specs.Course.{Course}
 use Rattle.hk_player.specs.Playing.{Adds, StopsAt, IsTorn}
@@ -10,8 +10,8 @@ pub loop-turn-init : goal.loop-turn-init
 loop-turn-init g c = record {
   course_stays = refl;
   played = ([], [], Took-nothing _, Wrote-nothing _, (([], c.requires.new, sym c.requires.nothing_printed), omega arith));
-  reads_count = omega arith;
-  writes_count = omega arith;
+  no_read_failed = refl;
+  no_write_failed = refl;
 }
 
 pub returns-in-SinkFault-clause-torn : goal.returns-in-SinkFault-clause-torn
@@ -45,8 +45,8 @@ loop-turn-preserved g c = record {
       (λ bs o. HasPlayed (g.P.Player.has_played c.play_piece.new.player) course bs o × (c.loop-turn._turn + 1 ≤ length bs))
       (subst (λ (k : Course). Adds k so_far.4.0.0 b all.0 (b ++ piece) (g.K.Sink.written c.loop-turn.out) (g.K.Sink.written c.play_piece.new.out)) c.loop-turn.invariant.course_stays all.2)
       (λ o is. ((all.0, all.1, is), omega (arith, so_far.4.1, some, long)));
-  reads_count = omega (arith, c.loop-turn.invariant.reads_count, c.read.ensures.never_falls);
-  writes_count = omega (arith, c.loop-turn.invariant.writes_count, c.play_piece.ensures.never_falls);
+  no_read_failed = c.in-Bytes.ensures.counts_failures ∙ c.loop-turn.invariant.no_read_failed;
+  no_write_failed = c.in-All.ensures.counts_failures (λ no. cc) ∙ c.loop-turn.invariant.no_write_failed;
 }
 
 pub returns-in-End-clause-end : goal.returns-in-End-clause-end

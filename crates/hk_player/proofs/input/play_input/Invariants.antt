@@ -9,6 +9,6 @@ invariant-loop-turn g l = record {
   course_stays : g.P.Player.course l.player ≡ g.P.Player.course l.fn.player;
   played : Trades (g.S.Source.left l.fn.input) (g.S.Source.left l.input) (g.K.Sink.written l.fn.out) (g.K.Sink.written l.out)
       (λ b o. HasPlayed (g.P.Player.has_played l.player) (g.P.Player.course l.fn.player) b o × (l._turn ≤ length b));
-  reads_count : g.S.Source.faults l.fn.input ≤ g.S.Source.faults l.input;
-  writes_count : g.K.Sink.faults l.fn.out ≤ g.K.Sink.faults l.out;
+  no_read_failed : g.S.Source.faults l.input ≡ g.S.Source.faults l.fn.input;
+  no_write_failed : g.K.Sink.faults l.out ≡ g.K.Sink.faults l.fn.out;
 }

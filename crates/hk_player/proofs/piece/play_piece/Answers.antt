@@ -1,4 +1,4 @@
-use Rattle.std.proofs.Common.{◌≡◌, ◌<◌, ◌≤◌, ◌+◌, ◌++◌, ◌∷◌, [], length, take, drop, get_or, refl, sym, ◌∙◌, ap, subst, append-nil, List, ℕ, Option, Some, arith}
+use Rattle.std.proofs.Common.{◌≡◌, ◌<◌, ◌≤◌, ◌+◌, ◌++◌, ◌∷◌, [], length, take, drop, get_or, refl, sym, ◌∙◌, ap, subst, append-nil, List, ℕ, Option, arith}
 use Rattle.std.proofs.lemmas.List.{take_all}
 use Rattle.hk_spec_streams.specs.Pieces.{fault_of}
 use Rattle.hk_player.specs.Course.{Course}
@@ -14,7 +14,7 @@ loop-byte-init g c = record {
     subst (g.P.Player.has_played c.args.player.now refused) (sym (append-nil text)) h,
     Adds-nothing (g.P.Player.course c.args.player.now) refused text (g.K.Sink.written c.args.out.now),
   );
-  never_falls = omega arith;
+  no_write_failed = refl;
 }
 
 pub returns-in-Stopped-clause-stopped : goal.returns-in-Stopped-clause-stopped
@@ -73,7 +73,7 @@ loop-byte-preserved g c = record {
             (Adds-append course refused text played.0 mid went.1.0 (mid ++ get_or piece i 0 ∷ []) before was now played.2
             (subst (λ (k : Course). Adds k played.0 mid went.1.0 (mid ++ get_or piece i 0 ∷ []) was now) same went.1.2)),
       );
-  never_falls = omega (arith, c.loop-byte.invariant.never_falls, c.take.ensures.never_falls);
+  no_write_failed = c.in-Going.ensures.counts_failures (λ no. cc) ∙ c.loop-byte.invariant.no_write_failed;
 }
 
 pub returns-clause-all : goal.returns-clause-all

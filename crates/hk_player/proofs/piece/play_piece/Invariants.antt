@@ -1,4 +1,4 @@
-use Rattle.std.proofs.Common.{◌≡◌, ◌≤◌, ◌++◌, take, ℕ, List}
+use Rattle.std.proofs.Common.{◌≡◌, ◌++◌, take, ℕ, List}
 use Rattle.hk_player.specs.Playing.{Adds}
 use Rattle.hk_player.proofs.piece.play_piece.Given as goal
 
@@ -9,5 +9,5 @@ invariant-loop-byte g l = record {
   played : (refused text : List ℕ) → g.P.Player.has_played l.fn.player refused text
       → (refused' : List ℕ) × g.P.Player.has_played l.player refused' (text ++ take l.byte-index l.piece)
       × Adds (g.P.Player.course l.fn.player) refused text refused' (text ++ take l.byte-index l.piece) (g.K.Sink.written l.fn.out) (g.K.Sink.written l.out);
-  never_falls : g.K.Sink.faults l.fn.out ≤ g.K.Sink.faults l.out;
+  no_write_failed : g.K.Sink.faults l.out ≡ g.K.Sink.faults l.fn.out;
 }

@@ -12,6 +12,7 @@ returns g c =
         known = task_status _ c.play.ensures.known;
         reads_count = c.play.ensures.reads_count;
         writes_count = c.play.ensures.writes_count;
+        no_memory_unread = λ is. absurd (had_memory _ c.play.ensures.known is);
         no_memory_unwritten = λ is. absurd (had_memory _ c.play.ensures.known is);
         ended = λ is. let t = c.play.ensures.ended is in (t.0, t.1, t.2, t.3, whole_is p _ t.0 t.1 true t.4);
         in_disorder = λ is. let t = c.play.ensures.in_disorder is in (t.0, t.1, t.2, t.3, whole_is p _ t.0 t.1 false t.4);
@@ -20,6 +21,8 @@ returns g c =
         stopped = λ is. let t = c.play.ensures.stopped is in (t.0, t.1, t.2, t.3, stopped_is p _ t.0 t.1 t.4);
         read_fault_cause = c.play.ensures.read_fault_cause;
         write_fault_cause = c.play.ensures.write_fault_cause;
-        complete = λ b tells right reads writes memory. c.play.ensures.complete b tells (λ refused. right_is p b (right refused)) reads writes;
+        no_read_failed = c.play.ensures.no_read_failed;
+        no_write_failed = c.play.ensures.no_write_failed;
+        complete = λ b tells right reads writes memory. c.play.ensures.complete b tells (right_is p b right) reads writes;
       };
     }

@@ -14,6 +14,7 @@ returns g c = record {
         known = task_status _ c.play.ensures.known;
         reads_count = c.play.ensures.reads_count;
         writes_count = c.play.ensures.writes_count;
+        no_memory_unread = λ is. absurd (had_memory _ c.play.ensures.known is);
         no_memory_unwritten = λ is. absurd (had_memory _ c.play.ensures.known is);
         ended = c.play.ensures.ended;
         in_disorder = c.play.ensures.in_disorder;
@@ -22,6 +23,8 @@ returns g c = record {
         stopped = c.play.ensures.stopped;
         read_fault_cause = c.play.ensures.read_fault_cause;
         write_fault_cause = c.play.ensures.write_fault_cause;
+        no_read_failed = c.play.ensures.no_read_failed;
+        no_write_failed = c.play.ensures.no_write_failed;
         complete = λ b tells right reads writes memory. c.play.ensures.complete b tells right reads writes;
       });
 }

@@ -37,7 +37,7 @@ loop-station-preserved g c =
           let at = found rules 0 c.args.stations.now listeners i station h there in
           ended_more rules listeners i at.listener at.there c.loop-station.all_ended c.in-Ok.ended (c.loop-station.invariant.ended rules listeners h) (c.in-Ok.ensures.ended rules at.listener at.hears);
       others = still_left c.args.stations.now c.loop-station.stations i c.write_end.new.station c.loop-station.invariant.others;
-      count = omega (arith, c.loop-station.invariant.count, c.in-Ok.ensures.never_falls);
+      no_write_failed = c.in-Ok.ensures.counts_failures ∙ c.loop-station.invariant.no_write_failed;
     }
 
 pub returns-clause-whole : goal.returns-clause-whole

@@ -1,4 +1,4 @@
-use Rattle.std.proofs.Common.{◌≡◌, ◌≤◌, take, drop}
+use Rattle.std.proofs.Common.{◌≡◌, take, drop}
 use Rattle.hk_base.specs.Devices.{Wrote}
 use Rattle.hk_run.specs.Holding.{ForListeners}
 use Rattle.hk_run.specs.Course.{station_lines, all_ended}
@@ -10,5 +10,5 @@ invariant-loop-station g l = record {
   lines : ForListeners l.fn.stations (λ rules listeners. Wrote (station_lines rules (take l.station-index listeners)) (g.K.Sink.written l.fn.out) (g.K.Sink.written l.out));
   ended : ForListeners l.fn.stations (λ rules listeners. l.all_ended ≡ all_ended rules (take l.station-index listeners));
   others : drop l.station-index l.stations ≡ drop l.station-index l.fn.stations;
-  count : g.K.Sink.faults l.fn.out ≤ g.K.Sink.faults l.out;
+  no_write_failed : g.K.Sink.faults l.out ≡ g.K.Sink.faults l.fn.out;
 }

@@ -1,4 +1,4 @@
-use Rattle.std.proofs.Common.{◌≡◌, ◌≤◌, ◌<◌, [], length, refl, sym, ap, arith}
+use Rattle.std.proofs.Common.{◌≤◌, [], length, refl, sym, ap, arith}
 use Rattle.hk_front.specs.Hearing.{channels_of, factor_of}
 use Rattle.hk_printer.proofs.Growing.{silent}
 use Rattle.hk_printer.proofs.Limits.{no_fault}

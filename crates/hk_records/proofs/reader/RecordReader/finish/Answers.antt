@@ -1,4 +1,4 @@
-use Rattle.std.proofs.Common.{◌≡◌, ◌+◌, ◌-◌, length, Some, ap, ◌∙◌, sym, arith, subst}
+use Rattle.std.proofs.Common.{◌≡◌, ◌+◌, ◌-◌, length, Some, ap, ◌∙◌, arith, subst}
 use Rattle.hk_base.specs.declared.plain.Trouble.TheVariants.{BadRecord}
 use Rattle.hk_spec_streams.specs.Records.{open_bytes}
 use Rattle.hk_records.specs.Part.{IsPart}

@@ -1,4 +1,4 @@
-use Rattle.std.proofs.Common.{◌≡◌, ◌+◌, ◌-◌, ◌<◌, ◌≤◌, ◌∷◌, ◌++◌, [], length, ap, ◌∙◌, sym, arith, subst, true, false, length-append}
+use Rattle.std.proofs.Common.{◌≡◌, ◌+◌, ◌-◌, ◌∷◌, ◌++◌, [], length, ap, ◌∙◌, sym, arith, subst, true, false, length-append}
 use Rattle.hk_base.specs.declared.plain.Trouble.TheVariants.{BadRecord}
 use Rattle.hk_records.specs.declared.reader.Came.TheVariants.{Bad}
 use Rattle.hk_spec_streams.specs.Records.{open_bytes}

@@ -3,7 +3,7 @@ use Rattle.std.specs.Prelude.{slice_get}
 use Rattle.std.proofs.lemmas.Option.{slice_get_read}
 use Rattle.hk_station.specs.declared.station.Station.{Station}
 use Rattle.hk_run.proofs.Stations.{found}
-use Rattle.hk_run.proofs.Hearing.{holds_skipped, adds_skipped, holds_heard, adds_lines, adds_front, same_shelf, going_on, torn_off, some_end, no_end, absent, adds_nothing}
+use Rattle.hk_run.proofs.Hearing.{holds_skipped, adds_skipped, holds_heard, adds_lines, adds_front, same_shelf, going_on, no_write_failed, torn_off, some_end, no_end, absent, adds_nothing}
 use Rattle.hk_run.proofs.run.Run.hear.Goals as goal
 
 pub returns-then-is_some-clause-going : goal.returns-then-is_some-clause-going
@@ -52,3 +52,6 @@ returns-then-number-len-clause-going g c = λ is rules scene h refused.
     let past : length c.args.self.now.stations.items ≤ c.args.number = omega (arith, c.if-number-len.true) in
     let same = absent rules refused scene c.args.self.now.stations.items c.args.number c.args.byte h.hears past in
     (rw same (record { hears = h.hears; obeys = h.obeys }), rw same (adds_nothing scene (g.K.Sink.written c.args.out.now)))
+
+pub returns-clause-counts_failures : goal.returns-clause-counts_failures
+returns-clause-counts_failures g c = λ never. no_write_failed c.hear.result _ (λ torn. never (c.taken_of.ensures ∙ torn)) c.hear.ensures.counts_failures
