@@ -916,7 +916,7 @@ def main():
         return judge(plain[1], plain[2])
     if plain[:1] == ["shrink"]:
         return shrink(plain[1], plain[2], plain[3] if len(plain) > 3 else os.path.dirname(plain[2]) or ".")
-    if len(plain) != 1:
+    if len(plain) != 1 or plain[0].startswith("-"):
         print(__doc__)
         return 2
     return compare(os.path.abspath(plain[0]), int(options["--first"]), int(options["--cases"]), options["--kind"], options["--keep"], options["--cache"] or None)
