@@ -1,0 +1,104 @@
+-- A station's stream, heard byte after byte: the lines that are written for it, and the looks that are made.
+use Rattle.std.specs.Prelude.{◌≡◌, ⊤, ℕ, if◌then◌else◌, List, [], ◌∷◌, ◌++◌, map, flat_map, fold, length, zip, unwrap_or, Option, Some, None, is_some}
+use Rattle.std.specs.List.{enumerate_from}
+use Rattle.hk_base.specs.declared.plain.End.{End}
+use Rattle.hk_spec_matching.specs.Catalogue.{Songs}
+use Rattle.hk_spec_streams.specs.Pieces.{completed}
+use Rattle.hk_spec_streams.specs.Station.{station_met, station_seen, station_used, fences}
+use Rattle.hk_spec_streams.specs.Blocks.{Block, blocks}
+use Rattle.hk_spec_lines.specs.Lines.{printed_text}
+use Rattle.hk_spec_runs.specs.Desk.{Rules}
+use Rattle.hk_spec_runs.specs.Replay.{Listener, heard, new_blocks, report_in, end_of, lines_at}
+
+-- a byte as it was heard: the version then, and that version's songs
+pub record Instant : Type 0 where
+  pub byte : ℕ
+  pub version : ℕ
+  pub songs : Songs
+
+abbrev pub bytes_in : List Instant → List ℕ
+bytes_in instants = map (λ i. i.byte) instants
+
+-- a listener before its first byte
+abbrev pub unheard : Listener
+unheard = record { used = []; version = 0; end = None }
+
+-- a fact where looks were made
+abbrev pub IfLooked : List ℕ → Type 0 → Type 0
+IfLooked [] P = ⊤
+IfLooked (v ∷ looks) P = P
+
+module _ (rules : Rules) where
+  -- A listener's next byte, with the catalogue at version v; one that is over skips it.
+  abbrev pub next : ℕ → Listener → ℕ → Listener
+  next v l byte = if is_some l.end then l else heard rules v l byte
+
+  -- the blocks that a listener's next byte completes, each with its number
+  abbrev pub blocks_gained : ℕ → Listener → ℕ → List (ℕ × Block)
+  blocks_gained v l byte = new_blocks rules l (next v l byte)
+
+  -- their report lines, at a version with these songs
+  abbrev pub lines_gained : ℕ → ℕ → Songs → Listener → ℕ → List ℕ
+  lines_gained station v songs l byte = flat_map printed_text (map (report_in station v songs) (blocks_gained v l byte))
+
+  -- the version of a look for each block and each fence that the next byte completes
+  abbrev pub looks_gained : ℕ → Listener → ℕ → List ℕ
+  looks_gained v l byte =
+      let used = l.used ++ byte ∷ [] in
+      if is_some l.end then [] else if is_some (station_met rules.bytes used) then []
+      else map (λ block. v) (completed (blocks rules.setting) used) ++ map (λ fence. v) (completed fences used)
+
+  -- a listener after one instant
+  abbrev pub after_one : Listener → Instant → Listener
+  after_one l i = next i.version l i.byte
+
+  -- a listener after these instants
+  abbrev pub after : Listener → List Instant → Listener
+  after l instants = fold after_one l instants
+
+  -- the lines of all blocks that they complete
+  abbrev pub lines_over : ℕ → Listener → List Instant → List ℕ
+  lines_over station l [] = []
+  lines_over station l (i ∷ rest) = lines_gained station i.version i.songs l i.byte ++ lines_over station (after_one l i) rest
+
+  -- the version of each of these lines
+  abbrev pub versions_over : Listener → List Instant → List ℕ
+  versions_over l [] = []
+  versions_over l (i ∷ rest) = map (λ block. i.version) (blocks_gained i.version l i.byte) ++ versions_over (after_one l i) rest
+
+  -- the version of a look for each block and each fence that they complete
+  abbrev pub looks_over : Listener → List Instant → List ℕ
+  looks_over l [] = []
+  looks_over l (i ∷ rest) = looks_gained i.version l i.byte ++ looks_over (after_one l i) rest
+
+  -- The past tells the songs of each of these looks.
+  abbrev pub AreKnown : Listener → List Instant → (ℕ → Option Songs) → Type 0
+  AreKnown l [] past = ⊤
+  AreKnown l (i ∷ rest) past = IfLooked (looks_gained i.version l i.byte) (past i.version ≡ Some i.songs) × AreKnown (after_one l i) rest past
+
+  -- Each byte leaves the blocks before it, and further ones may follow.
+  abbrev pub KeepsBlocks : Listener → List Instant → Type 0
+  KeepsBlocks l [] = ⊤
+  KeepsBlocks l (i ∷ rest) =
+      ((more : List Block) × (blocks rules.setting (after_one l i).used ≡ blocks rules.setting l.used ++ more)) × KeepsBlocks (after_one l i) rest
+
+  -- What is written for these instants, and the versions of their looks, with the songs in the past.
+  pub record Gives (station : ℕ) (l : Listener) (instants : List Instant) (text answers : List ℕ) (past : ℕ → Option Songs) : Type 0 where
+    pub lines : text ≡ lines_over station l instants
+    pub looks : answers ≡ looks_over l instants
+    pub known : AreKnown l instants past
+    pub blocks_stay : KeepsBlocks l instants
+
+  -- the songs of a version that is known
+  abbrev pub songs_in : (ℕ → Option Songs) → ℕ → Songs
+  songs_in past v = unwrap_or (past v) []
+
+  -- The text is the log of the blocks of the bytes that a listener used, with one version for each.
+  pub record IsLogOf (station : ℕ) (l : Listener) (vs : List ℕ) (past : ℕ → Option Songs) (text : List ℕ) : Type 0 where
+    pub one_each : length vs ≡ length (blocks rules.setting l.used)
+    pub log : text ≡ lines_at station (songs_in past) (enumerate_from 0 (blocks rules.setting l.used)) vs
+
+  -- What a listener used of these bytes, with its end or with one that is given to it from outside.
+  pub record UsesOf (l : Listener) (bytes : List ℕ) : Type 0 where
+    pub used : l.used ≡ station_used rules.bytes (end_of rules l) bytes
+    pub going : l.end ≡ None → l.used ≡ station_seen rules.bytes bytes
