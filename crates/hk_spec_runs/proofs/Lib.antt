@@ -1,3 +1,4 @@
 mod SceneEnds
 mod LastLines
 pub mod EndsTold
+pub mod Listening

@@ -1,7 +1,6 @@
 -- A station's stream, heard byte after byte: the lines that are written for it, and the looks that are made.
-use Rattle.std.specs.Prelude.{◌≡◌, ⊤, ℕ, if◌then◌else◌, List, [], ◌∷◌, ◌++◌, map, flat_map, fold, length, zip, unwrap_or, Option, Some, None, is_some}
+use Rattle.std.specs.Prelude.{◌≡◌, ⊤, ℕ, if◌then◌else◌, List, [], ◌∷◌, ◌++◌, map, flat_map, fold, length, unwrap_or, Option, Some, None, is_some}
 use Rattle.std.specs.List.{enumerate_from}
-use Rattle.hk_base.specs.declared.plain.End.{End}
 use Rattle.hk_spec_matching.specs.Catalogue.{Songs}
 use Rattle.hk_spec_streams.specs.Pieces.{completed}
 use Rattle.hk_spec_streams.specs.Station.{station_met, station_seen, station_used, fences}
@@ -88,6 +87,14 @@ module _ (rules : Rules) where
     pub looks : answers ≡ looks_over l instants
     pub known : AreKnown l instants past
     pub blocks_stay : KeepsBlocks l instants
+
+  -- One line is written for this instant: that of the block that its byte completes. One look is made.
+  pub record GivesOne (station : ℕ) (l : Listener) (i : Instant) (line : List ℕ) : Type 0 where
+    pub lines : line ≡ lines_gained station i.version i.songs l i.byte
+    pub looks : looks_gained i.version l i.byte ≡ i.version ∷ []
+    pub block : Block
+    pub blocks_are : blocks rules.setting (l.used ++ i.byte ∷ []) ≡ blocks rules.setting l.used ++ block ∷ []
+    pub report : line ≡ printed_text (report_in station i.version i.songs (length (blocks rules.setting l.used), block))
 
   -- the songs of a version that is known
   abbrev pub songs_in : (ℕ → Option Songs) → ℕ → Songs
