@@ -1,19 +1,7 @@
 -- Looks one after another.
-use Rattle.std.proofs.Common.{◌≡◌, ◌≤◌, ℕ, List, [], ◌∷◌, ◌++◌, IsTrue, Option, None, Some, refl, sym, ◌∙◌, ap, subst, arith, append-nil, append_assoc, option_map}
-use Rattle.hk_block.specs.Looker.{LookerView, KnownBy, Looks, Rise, SameCatalogue}
-
-rise_from : (a b : ℕ) (vs : List ℕ) (to : ℕ) → a ≤ b → Rise b vs to → Rise a vs to
-rise_from a b [] to less rise = omega (arith, less, rise)
-rise_from a b (v ∷ vs) to less rise = (omega (arith, less, rise.0), rise.1)
-
-Rise-append : (a b c : ℕ) (vs ws : List ℕ) → Rise a vs b → Rise b ws c → Rise a (vs ++ ws) c
-Rise-append a b c [] ws first second = rise_from a b ws c first second
-Rise-append a b c (v ∷ vs) ws first second = (first.0, Rise-append v b c vs ws first.1 second)
-
--- versions that rise end no lower than they begin
-pub Rise-le : (a b : ℕ) (vs : List ℕ) → Rise a vs b → a ≤ b
-Rise-le a b [] rise = rise
-Rise-le a b (v ∷ vs) rise = let more : v ≤ b = Rise-le v b vs rise.1 in omega (arith, rise.0, more)
+use Rattle.std.proofs.Common.{◌≡◌, ℕ, List, [], ◌∷◌, ◌++◌, IsTrue, Option, None, Some, refl, sym, ◌∙◌, ap, subst, arith, append-nil, append_assoc, option_map}
+use Rattle.hk_spec_matching.proofs.Rising.{Rise-append}
+use Rattle.hk_block.specs.Looker.{LookerView, KnownBy, Looks, SameCatalogue}
 
 KnownBy-append : (vs ws : List ℕ) (a b c : LookerView) → KnownBy vs a b → KnownBy ws b c → KnownBy (vs ++ ws) a c
 KnownBy-append [] [] a b c first second = λ known. second (first known)

@@ -1,7 +1,7 @@
 -- What looks mean.
-use Rattle.std.specs.Prelude.{◌≡◌, ◌≤◌, ℕ, List, [], ◌∷◌, ◌++◌, Bool, IsTrue, Option, Some, option_map}
+use Rattle.std.specs.Prelude.{◌≡◌, ℕ, List, [], ◌∷◌, ◌++◌, Bool, IsTrue, Option, Some, option_map}
 use Rattle.hk_base.specs.declared.plain.Match.{Match}
-use Rattle.hk_spec_matching.specs.Catalogue.{Songs, Edit, Limits}
+use Rattle.hk_spec_matching.specs.Catalogue.{Songs, Edit, Limits, Rise}
 use Rattle.hk_spec_matching.specs.Matching.{Query, matches}
 use Rattle.hk_block.specs.Ring.{Ring}
 
@@ -44,11 +44,6 @@ pub record LookerView : Type 0 where
 -- each version that was known is known, with the same songs
 abbrev pub KeepsPast : Past → Past → Type 0
 KeepsPast old new = (v : ℕ) (songs : Songs) → old v ≡ Some songs → new v ≡ Some songs
-
--- Versions that never fall, from one to another.
-abbrev pub Rise : ℕ → List ℕ → ℕ → Type 0
-Rise from [] to = from ≤ to
-Rise from (v ∷ rest) to = (from ≤ v) × Rise v rest to
 
 -- the songs at its version are those that it knows of that version
 abbrev pub IsKnown : LookerView → Type 0

@@ -121,6 +121,24 @@ module _ (rules : Rules) where
         (ap (λ e. cond (is_some e) [] (cond (is_some (station_met rules.bytes (l.used ++ i.byte ∷ []))) [] rest)) going ∙ ap (λ o. cond (is_some o) [] rest) met)
 
   -- one that goes on, and a byte that meets none
+  pub next_on : (l : Listener) (i : Instant) → l.end ≡ None → station_met rules.bytes (l.used ++ i.byte ∷ []) ≡ None
+      → after_one rules l i ≡ record {
+        used = l.used ++ i.byte ∷ [];
+        version = cond (nat_lt 0 (length (completed (blocks rules.setting) (l.used ++ i.byte ∷ [])) + length (map (λ (fence : Fence). fence.asked) (completed fences (l.used ++ i.byte ∷ []))))) i.version l.version;
+        end = option_map (λ a. ends.FenceAhead a i.version) (find (λ a. nat_lt i.version a) (map (λ (fence : Fence). fence.asked) (completed fences (l.used ++ i.byte ∷ []))));
+      }
+  next_on l i going met =
+      let t : List ℕ = l.used ++ i.byte ∷ [] in
+      let asked : List ℕ = map (λ (fence : Fence). fence.asked) (completed fences t) in
+      let heard_as : Option WireFault → Listener = λ o.
+      option_map_or (λ fault. record l { end = Some (ends.Wire fault) }) o (record {
+        used = t;
+        version = cond (nat_lt 0 (length (completed (blocks rules.setting) t) + length asked)) i.version l.version;
+        end = option_map (λ a. ends.FenceAhead a i.version) (find (λ a. nat_lt i.version a) asked);
+      }) in
+      ap (λ e. cond (is_some e) l (heard rules i.version l i.byte)) going ∙ ap heard_as met
+
+  -- the same with the blocks and fences that it brings
   module _ (l : Listener) (i : Instant) (going : l.end ≡ None) (met : station_met rules.bytes (l.used ++ i.byte ∷ []) ≡ None) (more : List Block) (further : List Fence)
       (more_blocks : blocks rules.setting (l.used ++ i.byte ∷ []) ≡ blocks rules.setting l.used ++ more)
       (more_fences : fences (l.used ++ i.byte ∷ []) ≡ fences l.used ++ further) where
@@ -140,17 +158,14 @@ module _ (rules : Rules) where
 
     pub next_goes : after_one rules l i ≡ goes
     next_goes =
-        let t : List ℕ = l.used ++ i.byte ∷ [] in
-        let by : Option WireFault → List Fence → List Block → Listener = λ fault fs bs.
-        option_map_or (λ fault. record l { end = Some (ends.Wire fault) }) fault (record {
-          used = t;
-          version = cond (nat_lt 0 (length bs + length (map (λ fence. fence.asked) fs))) i.version l.version;
-          end = option_map (λ a. ends.FenceAhead a i.version) (find (λ a. nat_lt i.version a) (map (λ fence. fence.asked) fs));
-        }) in
-        ap (λ e. cond (is_some e) l (heard rules i.version l i.byte)) going
-        ∙ ap (λ fault. by fault (completed fences t) (completed (blocks rules.setting) t)) met
-        ∙ ap (λ fs. by None fs (completed (blocks rules.setting) t)) fences_completed
-        ∙ ap (by None further) blocks_completed
+        let by : List Fence → List Block → Listener = λ fs bs. record {
+          used = l.used ++ i.byte ∷ [];
+          version = cond (nat_lt 0 (length bs + length (map (λ (fence : Fence). fence.asked) fs))) i.version l.version;
+          end = option_map (λ a. ends.FenceAhead a i.version) (find (λ a. nat_lt i.version a) (map (λ (fence : Fence). fence.asked) fs));
+        } in
+        next_on l i going met
+        ∙ ap (λ fs. by fs (completed (blocks rules.setting) (l.used ++ i.byte ∷ []))) fences_completed
+        ∙ ap (by further) blocks_completed
 
     pub lines_goes : (station : ℕ)
         → lines_gained rules station i.version i.songs l i.byte ≡ flat_map printed_text (map (report_in station i.version i.songs) (enumerate_from (length (blocks rules.setting l.used)) more))

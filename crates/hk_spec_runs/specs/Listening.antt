@@ -1,7 +1,7 @@
 -- A station's stream, heard byte after byte: the lines that are written for it, and the looks that are made.
 use Rattle.std.specs.Prelude.{◌≡◌, ⊤, ℕ, if◌then◌else◌, List, [], ◌∷◌, ◌++◌, map, flat_map, fold, length, unwrap_or, Option, Some, None, is_some}
 use Rattle.std.specs.List.{enumerate_from}
-use Rattle.hk_spec_matching.specs.Catalogue.{Songs}
+use Rattle.hk_spec_matching.specs.Catalogue.{Songs, Rise}
 use Rattle.hk_spec_streams.specs.Pieces.{completed}
 use Rattle.hk_spec_streams.specs.Station.{station_met, station_seen, station_used, fences}
 use Rattle.hk_spec_streams.specs.Blocks.{Block, blocks}
@@ -26,6 +26,10 @@ unheard = record { used = []; version = 0; end = None }
 abbrev pub IfLooked : List ℕ → Type 0 → Type 0
 IfLooked [] P = ⊤
 IfLooked (v ∷ looks) P = P
+
+-- the songs of a version that is known
+abbrev pub songs_in : (ℕ → Option Songs) → ℕ → Songs
+songs_in past v = unwrap_or (past v) []
 
 module _ (rules : Rules) where
   -- A listener's next byte, with the catalogue at version v; one that is over skips it.
@@ -96,16 +100,27 @@ module _ (rules : Rules) where
     pub blocks_are : blocks rules.setting (l.used ++ i.byte ∷ []) ≡ blocks rules.setting l.used ++ block ∷ []
     pub report : line ≡ printed_text (report_in station i.version i.songs (length (blocks rules.setting l.used), block))
 
-  -- the songs of a version that is known
-  abbrev pub songs_in : (ℕ → Option Songs) → ℕ → Songs
-  songs_in past v = unwrap_or (past v) []
-
   -- The text is the log of the blocks of the bytes that a listener used, with one version for each.
   pub record IsLogOf (station : ℕ) (l : Listener) (vs : List ℕ) (past : ℕ → Option Songs) (text : List ℕ) : Type 0 where
     pub one_each : length vs ≡ length (blocks rules.setting l.used)
     pub log : text ≡ lines_at station (songs_in past) (enumerate_from 0 (blocks rules.setting l.used)) vs
 
-  -- What a listener used of these bytes, with its end or with one that is given to it from outside.
+  -- What a station wrote since its start is the log of the blocks of the bytes that it used.
+  abbrev pub WritesLog : Type 0
+  WritesLog = (station : ℕ) (instants : List Instant) (text answers : List ℕ) (past : ℕ → Option Songs) → Gives station unheard instants text answers past
+      → IsLogOf station (after unheard instants) (versions_over unheard instants) past text
+
+  -- Where one line more was to be written, that would have made the log of one block more.
+  abbrev pub TornLog : Type 0
+  TornLog = (station : ℕ) (l : Listener) (vs : List ℕ) (past : ℕ → Option Songs) (text : List ℕ) (i : Instant) (line : List ℕ)
+      → IsLogOf station l vs past text → GivesOne station l i line → past i.version ≡ Some i.songs
+      → IsLogOf station (record l { used = l.used ++ i.byte ∷ [] }) (vs ++ i.version ∷ []) past (text ++ line)
+
+  -- What a listener used of the bytes that it was given, with its end; one that goes on has used all that is seen of them.
   pub record UsesOf (l : Listener) (bytes : List ℕ) : Type 0 where
     pub used : l.used ≡ station_used rules.bytes (end_of rules l) bytes
     pub going : l.end ≡ None → l.used ≡ station_seen rules.bytes bytes
+
+  -- That is so since the start, where the versions of its looks don't fall.
+  abbrev pub UsesBytes : Type 0
+  UsesBytes = (instants : List Instant) (to : ℕ) → Rise 0 (looks_over unheard instants) to → UsesOf (after unheard instants) (bytes_in instants)

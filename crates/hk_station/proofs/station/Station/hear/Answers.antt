@@ -5,6 +5,7 @@ use Rattle.hk_spec_streams.specs.Blocks.{Block}
 use Rattle.hk_spec_runs.specs.Listening.{Instant}
 use Rattle.hk_block.proofs.Looking.{Looks-nothing}
 use Rattle.hk_receiver.specs.Kept.{block_in}
+use Rattle.hk_receiver.specs.Received.{segment_of, ring_of}
 use Rattle.hk_station.specs.declared.station.Progress.TheVariants.{Over}
 use Rattle.hk_station.specs.Feeding.{instant}
 use Rattle.hk_station.specs.Outcome.{log_result}
@@ -35,8 +36,8 @@ pub returns-in-Block-clause-heard : goal.returns-in-Block-clause-heard
 returns-in-Block-clause-heard g c =
     let unended : c.args.self.now.end ≡ None = none_left c.args.self.now.end c.in_default.not-Some in
     let i : Instant = instant (g.V.Looker.looker c.report.new.view) c.args.byte in
-    let block : Block = block_in c.push.new.self.segment c.push.new.self.ring in
-    let spelled = one_line c.args.self.now.number i.version c.args.self.now.lines c.push.new.self.segment c.push.new.self.ring i.songs in
+    let block : Block = block_in (segment_of c.push.new.self) (ring_of c.push.new.self) in
+    let spelled = one_line c.args.self.now.number i.version c.args.self.now.lines (segment_of c.push.new.self) (ring_of c.push.new.self) i.songs in
     ok_both (log_result c.report.result) (λ becomes wrote. record {
       text = _;
       answers = i.version ∷ [];
@@ -51,8 +52,8 @@ returns-in-Block-clause-heard g c =
 pub returns-in-Block-clause-torn : goal.returns-in-Block-clause-torn
 returns-in-Block-clause-torn g c = λ unended.
     let i : Instant = instant (g.V.Looker.looker c.report.new.view) c.args.byte in
-    let block : Block = block_in c.push.new.self.segment c.push.new.self.ring in
-    let spelled = one_line c.args.self.now.number i.version c.args.self.now.lines c.push.new.self.segment c.push.new.self.ring i.songs in
+    let block : Block = block_in (segment_of c.push.new.self) (ring_of c.push.new.self) in
+    let spelled = one_line c.args.self.now.number i.version c.args.self.now.lines (segment_of c.push.new.self) (ring_of c.push.new.self) i.songs in
     err_both (log_result c.report.result) (λ becomes torn. record {
       line = _;
       fails = subst (λ text. HasFailed g.K.Sink text c.args.log.now c.report.new.log) (sym spelled) torn;
