@@ -9,7 +9,9 @@ use Rattle.hk_base.specs.declared.plain.Reason.TheVariants as reasons
 use Rattle.hk_spec_streams.specs.Pieces.{first_that_holds}
 use Rattle.hk_spec_streams.specs.Operator.{Command, AddWords, OpenSong, Audio, Close, Withdraw, Publish, ADD_WORDS, OPEN_SONG, AUDIO, CLOSE, WITHDRAW, PUBLISH}
 use Rattle.hk_spec_matching.specs.Catalogue as edits
-use Rattle.hk_spec_runs.specs.Desk.{Rules, Desk, Recording, present, add_refusals, refusals, with_edit, song_of, recorded_words, IsReply, answer, after}
+use Rattle.hk_spec_runs.specs.Desk.{Desk, Recording, present, refusals, with_edit, song_of, recorded_words, IsReply, answer, after}
+use Rattle.hk_spec_settings.specs.Refusals.{add_refusals}
+use Rattle.hk_spec_settings.specs.Settings.{Rules}
 use Rattle.hk_block.specs.Looker.{ShelfView}
 use Rattle.hk_operator.specs.Kept.{Words, Keeps}
 use Rattle.hk_operator.specs.Draft.{Drafts}

@@ -12,7 +12,8 @@ use Rattle.hk_spec_streams.specs.Pieces.{completed, pieces_within}
 use Rattle.hk_spec_streams.specs.Grammar.{packets, ends_at_start}
 use Rattle.hk_spec_streams.specs.Operator.{Command, command_for, operator_grammar, operator_met, operator_fault, operator_wrong, commands}
 use Rattle.hk_spec_streams.proofs.GrowingCommands.{whole_command, commands-append}
-use Rattle.hk_spec_runs.specs.Desk.{Rules, Desk}
+use Rattle.hk_spec_runs.specs.Desk.{Desk}
+use Rattle.hk_spec_settings.specs.Settings.{Rules}
 use Rattle.hk_spec_runs.specs.Replay.{Clerk, operator_end_of}
 use Rattle.hk_block.specs.Looker.{ShelfView}
 use Rattle.hk_operator_wire.specs.declared.wire.OpWire.{OpWire}

@@ -9,7 +9,8 @@ use Rattle.hk_spec_streams.specs.Pieces.{completed}
 use Rattle.hk_spec_streams.specs.Grammar.{packet_size}
 use Rattle.hk_spec_streams.specs.Operator.{Command, AddWords, OpenSong, Audio, Close, Withdraw, Publish, operator_met, operator_fault, commands, command_length_fits, OPEN_SONG}
 use Rattle.hk_spec_streams.specs.Pieces.{is_one_of}
-use Rattle.hk_spec_runs.specs.Desk.{Rules, Desk, Recording, IsReply, after}
+use Rattle.hk_spec_runs.specs.Desk.{Desk, Recording, IsReply, after}
+use Rattle.hk_spec_settings.specs.Settings.{Rules}
 use Rattle.hk_spec_runs.specs.Replay.{Clerk}
 use Rattle.hk_block.specs.Looker.{ShelfView}
 use Rattle.hk_operator_wire.specs.declared.wire.OpWire.{OpWire}

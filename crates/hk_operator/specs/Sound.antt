@@ -5,7 +5,8 @@ use Rattle.hk_spec_sound.specs.Prints.{full_analysis}
 use Rattle.hk_spec_streams.specs.Pieces.{is_one_of}
 use Rattle.hk_spec_streams.specs.Operator.{Command, AddWords, OpenSong, Audio, Close, Withdraw, Publish, AUDIO}
 use Rattle.hk_spec_matching.specs.Matching.{MOST_ERRORS}
-use Rattle.hk_spec_runs.specs.Desk.{Rules, Recording, recorded_words}
+use Rattle.hk_spec_runs.specs.Desk.{Recording, recorded_words}
+use Rattle.hk_spec_settings.specs.Settings.{Rules}
 use Rattle.hk_operator_wire.specs.declared.item.OpItem.{OpItem}
 use Rattle.hk_operator_wire.specs.declared.item.OpItem.TheVariants as items
 use Rattle.hk_operator_wire.specs.Items.{is_whole_command}

@@ -1,7 +1,8 @@
 // The operator.
 ghost use Rattle.std.specs.Prelude.{◌≡◌, ◌≤◌, ◌^◌, ◌+◌, ℕ, [], ◌∷◌, length, IfOk, is_some, true};
 ghost use Rattle.hk_spec_streams.specs.Operator.{Command, Close, commands};
-ghost use Rattle.hk_spec_runs.specs.Desk.{Rules, Desk, new_desk, IsReply, after};
+ghost use Rattle.hk_spec_runs.specs.Desk.{Desk, new_desk, IsReply, after};
+ghost use Rattle.hk_spec_settings.specs.Settings.{Rules};
 ghost use Rattle.hk_spec_runs.specs.Replay.{Clerk, operator_end_of};
 ghost use Rattle.hk_block.specs.Looker.{ShelfView};
 ghost use Rattle.hk_operator.specs.Desk.{IsAtDesk, StaysPublished};

@@ -1,6 +1,7 @@
 // The open song: its sound in, its words kept.
 ghost use Rattle.std.specs.Prelude.{◌≡◌, ◌≤◌, ◌^◌, ◌++◌, [], List, ℕ, Option, None, IfOk};
-ghost use Rattle.hk_spec_runs.specs.Desk.{Rules, Desk, Recording, answer, after};
+ghost use Rattle.hk_spec_runs.specs.Desk.{Desk, Recording, answer, after};
+ghost use Rattle.hk_spec_settings.specs.Settings.{Rules};
 ghost use Rattle.hk_spec_streams.specs.Operator.{OpenSong, Audio};
 ghost use Rattle.hk_operator.specs.Kept.{no_words};
 ghost use Rattle.hk_operator.specs.Sound.{IsRecording, IsFixed, sound_in, IsAllowedForm};

@@ -8,7 +8,7 @@ use Rattle.hk_spec_streams.specs.Station.{DATA, GAP}
 use Rattle.hk_spec_streams.specs.Operator.{ADD_WORDS, WITHDRAW, PUBLISH}
 use Rattle.hk_spec_streams.specs.Records.{STATION, OPERATOR}
 use Rattle.hk_spec_lines.specs.Lines.{Printed, Report, Replied, numbered, NEWLINE}
-use Rattle.hk_spec_runs.specs.Desk.{Rules}
+use Rattle.hk_spec_settings.specs.Settings.{Rules}
 use Rattle.hk_spec_runs.specs.Replay.{scene_of}
 
 -- the state after x; it is the value that is drawn
