@@ -1,13 +1,13 @@
 -- What ends a command: something, and a form ends its command. And what an item says of its byte.
-use Rattle.std.proofs.Common.{◌≡◌, ℕ, ◌+◌, ◌-◌, ◌%◌, ◌<◌, ◌≤◌, List, length, take, drop, refl, sym, ◌∙◌, ap, subst, arith, inl, inr, Bool, true, false, Option, Some, None}
-use Rattle.std.specs.Prelude.{◌==◌, ◌&&◌, nat_le, slice_index, is_some}
+use Rattle.std.proofs.Common.{◌≡◌, ℕ, ◌+◌, ◌-◌, ◌%◌, ◌<◌, ◌≤◌, List, length, take, drop, refl, sym, ◌∙◌, ap, arith, inl, inr, Bool, true, false, Some, None}
+use Rattle.std.specs.Prelude.{◌==◌, nat_le, slice_index, is_some}
 use Rattle.std.specs.Int.{w32, from_be_bytes}
 use Rattle.std.specs.Option.{option_map_or}
-use Rattle.std.proofs.lemmas.Bool.{cases_lt, cases_Bool, eqb-true, eq-eqb, leb-true, and_parts, both_ways}
+use Rattle.std.proofs.lemmas.Bool.{cases_lt, eqb-true, eq-eqb, leb-true, and_parts, both_ways}
 use Rattle.hk_base.specs.declared.plain.Form.{Form}
 use Rattle.hk_base.specs.declared.plain.WireFault.{WireFault}
 use Rattle.hk_spec_streams.specs.Grammar.{packet_size}
-use Rattle.hk_spec_streams.specs.Commands.{Row, Content, SoundForm, Nothing, ADD_WORDS, OPEN_SONG, AUDIO, CLOSE, WITHDRAW, PUBLISH, length_fits, row_of, has_id, content_of, command_length_fits}
+use Rattle.hk_spec_streams.specs.Commands.{Row, SoundForm, Nothing, ADD_WORDS, OPEN_SONG, AUDIO, CLOSE, WITHDRAW, PUBLISH, length_fits, row_of, has_id, content_of}
 use Rattle.hk_spec_streams.proofs.CommandRows.{by_row}
 use Rattle.hk_operator_wire.specs.declared.item.OpItem.TheVariants as items
 use Rattle.hk_operator_wire.specs.declared.item.Part.{Part}

@@ -10,7 +10,7 @@ use Rattle.hk_base.specs.declared.plain.WireFault.TheVariants.{BadHello, BadKind
 use Rattle.hk_spec_streams.specs.Pieces.{first_that_holds, last_bytes, is_one_of}
 use Rattle.hk_spec_streams.specs.Grammar.{packet_size, ends_at_start}
 use Rattle.hk_spec_streams.specs.Operator.{operator_grammar, operator_met, has_bad_format}
-use Rattle.hk_spec_streams.specs.Commands.{numbers, row_of, command_length_fits}
+use Rattle.hk_spec_streams.specs.Commands.{numbers, command_length_fits}
 use Rattle.hk_spec_streams.proofs.CommandRows.{is_kind}
 use Rattle.hk_spec_streams.proofs.GrowingPackets.{over}
 use Rattle.hk_spec_streams.proofs.GrowingCommands.{no_packets, last_command-append, ends_at_start-is}

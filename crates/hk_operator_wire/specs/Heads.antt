@@ -1,6 +1,5 @@
 -- What one byte does where no fault was met, by the few values that are kept.
 use Rattle.std.specs.Prelude.{◌≡◌, ℕ, ◌-◌, ◌==◌, Bool, not, ◌&&◌, ◌||◌, if◌then◌else◌, List, [], ◌∷◌, ◌++◌, length, drop, slice_index, codes, Option, is_some, Result, Ok, Err}
-use Rattle.std.specs.Option.{option_map_or}
 use Rattle.hk_base.specs.declared.plain.WireFault.{WireFault}
 use Rattle.hk_base.specs.declared.plain.WireFault.TheVariants.{BadHello, BadKind, BadLength, BadFormat}
 use Rattle.hk_operator_wire.specs.declared.head.Head.{Head}
