@@ -14,7 +14,9 @@ use Rattle.hk_spec_streams.specs.Operator.{Command, AddWords, Close}
 use Rattle.hk_spec_streams.specs.Operator as commands
 use Rattle.hk_spec_matching.specs.Catalogue.{Songs, Limits, has_song, positions_of, edited, edited_by, version}
 use Rattle.hk_spec_matching.specs.Catalogue as edits
-use Rattle.hk_spec_runs.specs.Desk.{Rules, Desk, Recording, present, add_refusals, refusals, recorded_words, song_of, with_edit, IsReply, answer, after}
+use Rattle.hk_spec_runs.specs.Desk.{Desk, Recording, present, refusals, recorded_words, song_of, with_edit, IsReply, answer, after}
+use Rattle.hk_spec_settings.specs.Refusals.{add_refusals}
+use Rattle.hk_spec_settings.specs.Settings.{Rules}
 use Rattle.hk_block.specs.Looker.{ShelfView}
 use Rattle.hk_catalogue.specs.Refusals.{lengths_of, add_tests, withdraw_tests, answered, reason_of, has_id}
 use Rattle.hk_catalogue.specs.Register.{AreRulesOf}

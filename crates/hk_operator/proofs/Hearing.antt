@@ -12,7 +12,8 @@ use Rattle.hk_spec_sound.specs.Samples.{samples_of, decimated}
 use Rattle.hk_spec_sound.specs.Prints.{Analysis, full_analysis, print_of, word_of, differences, frame_energies, prints_of_samples, prints_of_sound}
 use Rattle.hk_spec_streams.specs.Pieces.{is_one_of}
 use Rattle.hk_spec_streams.specs.Operator.{OpenSong, Audio}
-use Rattle.hk_spec_runs.specs.Desk.{Rules, Desk, Recording, answer, after, recorded_words, with_audio}
+use Rattle.hk_spec_runs.specs.Desk.{Desk, Recording, answer, after, recorded_words, with_audio}
+use Rattle.hk_spec_settings.specs.Settings.{Rules}
 use Rattle.hk_front.specs.Hearing.{Hearing, HasTaken, KeepsRules, channels_of, factor_of, prints_in}
 use Rattle.hk_spec_sound.proofs.Silence.{samples_of-nil, decimated-nil, frame_energies-nil}
 use Rattle.hk_operator.specs.Kept.{Words, Keeps, with_word, cleared}

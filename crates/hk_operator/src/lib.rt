@@ -10,7 +10,6 @@ mod done;
 mod draft;
 mod kept;
 mod operator;
-mod part;
 mod recorder;
 mod staging;
 #[cfg(test)]

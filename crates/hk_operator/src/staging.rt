@@ -1,7 +1,9 @@
 // Edits that are staged, or refused with their reason.
 ghost use Rattle.std.specs.Prelude.{◌≡◌, List, ℕ, length, option_map};
 ghost use Rattle.hk_spec_streams.specs.Pieces.{first_that_holds};
-ghost use Rattle.hk_spec_runs.specs.Desk.{Rules, Desk, present, add_refusals, refusals, with_edit, song_of};
+ghost use Rattle.hk_spec_runs.specs.Desk.{Desk, present, refusals, with_edit, song_of};
+ghost use Rattle.hk_spec_settings.specs.Refusals.{add_refusals};
+ghost use Rattle.hk_spec_settings.specs.Settings.{Rules};
 ghost use Rattle.hk_spec_streams.specs.Operator.{Withdraw};
 ghost use Rattle.hk_spec_matching.specs.Catalogue as edits;
 ghost use Rattle.hk_catalogue.specs.Refusals.{reason_of};

@@ -7,7 +7,7 @@ ghost use Rattle.hk_station_wire.specs.Held.{length_size, IsLast};
 ghost use Rattle.hk_station_wire.specs.declared.packet.LengthSize.TheVariants.{Four};
 ghost use Rattle.hk_operator_wire.specs.Heads.{hello_outcome};
 
-use crate::head::{Head, brought_by, ended, head_fault, hello_allows};
+use crate::head::{Head, brought_by, head_fault, hello_allows};
 use crate::item::OpItem;
 use crate::recent::LastFour;
 use hk_base::WireFault;
@@ -25,8 +25,8 @@ pub struct OpReader {
 
 impl OpReader {
     ghost use Rattle.hk_operator_wire.specs.Taken.{StandsAfter, command_count};
-    ghost use Rattle.hk_operator_wire.specs.Items.{last_command, item_of};
-    ghost use Rattle.hk_operator_wire.specs.Heads.{Ends, head_of};
+    ghost use Rattle.hk_operator_wire.specs.Items.{last_command, head_of, item_of};
+    ghost use Rattle.hk_operator_wire.specs.Heads.{Ends};
 
     pub fn new() -> OpReader
         ensures stands { StandsAfter result [] }
@@ -66,12 +66,10 @@ impl OpReader {
         ensures { (bytes : List ℕ) → IsLast self.now.packet bytes → Ends self.now.recent bytes → 0 < length bytes
             → head ≡ head_of bytes → byte ≡ slice_index bytes (length bytes - 1) → result ≡ item_of bytes }
     {
-        let item = brought_by(head, self.recent.number(), byte);
-        if self.packet.is_over() {
-            ended(item)
-        } else {
-            item
-        }
+        OpItem::joined(
+            brought_by(head, self.recent.number(), byte),
+            self.packet.is_over(),
+        )
     }
 
     fn head(&self) -> Head

@@ -14,7 +14,7 @@ use Rattle.hk_spec_streams.specs.Station.{station_wrong}
 use Rattle.hk_spec_streams.specs.Operator.{commands, operator_wrong}
 use Rattle.hk_spec_lines.specs.Lines.{station_line, operator_line}
 use Rattle.hk_spec_lines.proofs.LastBytes.{newlines, HasNewlines, HasNewlines-append, ended_station_line, other_station_line, ended_operator_line, other_operator_line}
-use Rattle.hk_spec_runs.specs.Desk.{Rules}
+use Rattle.hk_spec_settings.specs.Settings.{Rules}
 use Rattle.hk_spec_runs.specs.Replay.{Listener, Scene, end_of, operator_end_of, summary}
 use Rattle.hk_spec_runs.specs.Outcome.{has_ended}
 use Rattle.hk_spec_runs.proofs.SceneEnds.{EndsOtherwise, Kept}

@@ -11,7 +11,7 @@ use Rattle.hk_spec_streams.specs.Pieces.{completed}
 use Rattle.hk_spec_streams.specs.Station.{station_met}
 use Rattle.hk_spec_streams.specs.Operator.{Command, operator_met, commands}
 use Rattle.hk_spec_streams.specs.Records.{Arrival, ForStation, ForOperator, arrivals, input_seen}
-use Rattle.hk_spec_runs.specs.Desk.{Rules}
+use Rattle.hk_spec_settings.specs.Settings.{Rules}
 use Rattle.hk_spec_runs.specs.Replay.{Listener, Clerk, Scene, heard, obeyed, for_station, for_operator, arrived, opening, scene_of}
 
 -- a listener that has no end yet, or one that is not in order

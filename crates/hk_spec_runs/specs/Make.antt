@@ -5,10 +5,10 @@ use Rattle.std.specs.List.{range_with_len, enumerate_from}
 use Rattle.hk_base.specs.declared.plain.Print.{Print}
 use Rattle.hk_spec_sound.specs.Windows.{windows}
 use Rattle.hk_spec_streams.specs.Station.{DATA, GAP}
-use Rattle.hk_spec_streams.specs.Operator.{ADD_WORDS, WITHDRAW, PUBLISH}
+use Rattle.hk_spec_streams.specs.Commands.{Row, ADD_WORDS, WITHDRAW, PUBLISH}
 use Rattle.hk_spec_streams.specs.Records.{STATION, OPERATOR}
 use Rattle.hk_spec_lines.specs.Lines.{Printed, Report, Replied, numbered, NEWLINE}
-use Rattle.hk_spec_runs.specs.Desk.{Rules}
+use Rattle.hk_spec_settings.specs.Settings.{Rules}
 use Rattle.hk_spec_runs.specs.Replay.{scene_of}
 
 -- the state after x; it is the value that is drawn
@@ -40,8 +40,8 @@ operator_record bytes = OPERATOR ∷ to_be_bytes w16 (length bytes) ++ bytes
 abbrev pub station_record : ℕ → List ℕ → List ℕ
 station_record station bytes = STATION ∷ station ∷ to_be_bytes w16 (length bytes) ++ bytes
 
-abbrev pub command_bytes : ℕ → List ℕ → List ℕ
-command_bytes kind payload = kind ∷ to_be_bytes w32 (length payload) ++ payload
+abbrev pub command_bytes : Row → List ℕ → List ℕ
+command_bytes row payload = row.number ∷ to_be_bytes w32 (length payload) ++ payload
 
 abbrev pub add_bytes : List ℕ → ℕ → List ℕ
 add_bytes highs i = command_bytes ADD_WORDS (to_be_bytes w32 (100 + i) ++ flat_map (to_be_bytes w32) (song_of highs i))

@@ -18,7 +18,8 @@ use Rattle.hk_spec_matching.specs.Catalogue.{Songs, Journal, version}
 use Rattle.hk_spec_matching.specs.Matching.{matches}
 use Rattle.hk_spec_runs.specs.History.{query_of}
 use Rattle.hk_spec_lines.specs.Lines.{Printed, Report, Replied, printed_text, station_line, operator_line}
-use Rattle.hk_spec_runs.specs.Desk.{Rules, Desk, new_desk, refusals, answer, after}
+use Rattle.hk_spec_runs.specs.Desk.{Desk, new_desk, refusals, answer, after}
+use Rattle.hk_spec_settings.specs.Settings.{Rules}
 
 -- a station so far: the bytes that it used, the version of its last look, and its end once it is over
 pub record Listener : Type 0 where
