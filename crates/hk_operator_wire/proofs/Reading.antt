@@ -12,10 +12,10 @@ use Rattle.hk_spec_streams.specs.Grammar.{packet_size, ends_at_start}
 use Rattle.hk_spec_streams.specs.Operator.{operator_grammar, operator_met, command_length_fits, has_bad_format}
 use Rattle.hk_spec_streams.proofs.GrowingPackets.{over}
 use Rattle.hk_spec_streams.proofs.GrowingCommands.{no_packets, last_command-append, ends_at_start-is}
-use Rattle.hk_station_wire.specs.Held.{IsLast, is_over}
-use Rattle.hk_station_wire.specs.declared.packet.LastPacket.{LastPacket}
-use Rattle.hk_station_wire.specs.declared.packet.LengthSize.{LengthSize}
-use Rattle.hk_station_wire.specs.declared.packet.LengthSize.TheVariants.{Four}
+use Rattle.hk_wire.specs.Held.{IsLast, is_over}
+use Rattle.hk_wire.specs.declared.packet.LastPacket.{LastPacket}
+use Rattle.hk_wire.specs.declared.packet.LengthSize.{LengthSize}
+use Rattle.hk_wire.specs.declared.packet.LengthSize.TheVariants.{Four}
 use Rattle.hk_operator_wire.specs.declared.item.OpItem.TheVariants as items
 use Rattle.hk_operator_wire.specs.Items.{last_command, item_of}
 use Rattle.hk_operator_wire.specs.Heads.{head_of, head_fault, hello_allows, hello_outcome, is_kind}

@@ -2,8 +2,8 @@
 use Rattle.std.specs.Prelude.{◌≡◌, ℕ, ◌-◌, ◌%◌, ◌==◌, Bool, not, ◌&&◌, ◌||◌, if◌then◌else◌, nat_lt, List, [], ◌∷◌, ◌++◌, length, drop, slice_index, codes, Option, Result, Ok, Err}
 use Rattle.hk_base.specs.declared.plain.WireFault.{WireFault}
 use Rattle.hk_base.specs.declared.plain.WireFault.TheVariants.{BadHello, BadKind, BadLength, BadFormat}
-use Rattle.hk_station_wire.specs.Held.{length_in}
-use Rattle.hk_station_wire.specs.declared.packet.LengthSize.TheVariants.{Four}
+use Rattle.hk_wire.specs.Held.{length_in}
+use Rattle.hk_wire.specs.declared.packet.LengthSize.TheVariants.{Four}
 use Rattle.hk_operator_wire.specs.declared.head.Head.{Head}
 use Rattle.hk_operator_wire.specs.declared.recent.LastFour.{LastFour}
 use Rattle.hk_operator_wire.specs.declared.item.OpItem.{OpItem}

@@ -3,8 +3,8 @@ use Rattle.std.specs.Prelude.{◌≡◌, ℕ, List, Option, None}
 use Rattle.hk_base.specs.declared.plain.WireFault.{WireFault}
 use Rattle.hk_operator_wire.specs.declared.reader.OpReader.{OpReader}
 use Rattle.hk_operator_wire.specs.declared.wire.OpWire.{OpWire}
-use Rattle.hk_station_wire.specs.Held.{IsLast, count_of}
-use Rattle.hk_station_wire.specs.Kept.{Keeps, passage_limit, fault_kept}
+use Rattle.hk_wire.specs.Held.{IsLast, count_of}
+use Rattle.hk_wire.specs.Kept.{Keeps, passage_limit, fault_kept}
 use Rattle.hk_spec_streams.specs.Operator.{operator_met}
 use Rattle.hk_operator_wire.specs.Items.{last_command}
 use Rattle.hk_operator_wire.specs.Heads.{Ends}
