@@ -9,7 +9,7 @@ use Rattle.std.proofs.lemmas.Option.{slice_get_within}
 use Rattle.hk_base.specs.Devices.{Wrote}
 use Rattle.hk_spec_streams.specs.Station.{station_wrong}
 use Rattle.hk_spec_streams.proofs.GrowingBlocks.{enumerate-append}
-use Rattle.hk_spec_runs.specs.Desk.{Rules}
+use Rattle.hk_spec_settings.specs.Settings.{Rules}
 use Rattle.hk_spec_runs.specs.Replay.{Listener}
 use Rattle.hk_report.specs.Fronts.{WroteFront}
 use Rattle.hk_run.specs.Course.{listener_line, lines_from, station_lines, is_in_order, all_ended}

@@ -14,7 +14,8 @@ use Rattle.hk_spec_streams.specs.Station.{station_wrong}
 use Rattle.hk_spec_streams.specs.Operator.{commands, operator_wrong}
 use Rattle.hk_spec_streams.specs.Records.{input_wrong, open_record}
 use Rattle.hk_spec_lines.specs.Lines.{operator_line}
-use Rattle.hk_spec_runs.specs.Desk.{Rules, Desk}
+use Rattle.hk_spec_runs.specs.Desk.{Desk}
+use Rattle.hk_spec_settings.specs.Settings.{Rules}
 use Rattle.hk_spec_runs.specs.Outcome.{has_ended}
 use Rattle.hk_spec_runs.specs.Replay.{Scene, Listener, Clerk, summary, operator_end_of}
 use Rattle.hk_records.specs.Reader.{EndsWith, limit_of, stations_of}

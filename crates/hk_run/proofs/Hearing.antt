@@ -12,7 +12,8 @@ use Rattle.hk_spec_streams.specs.Blocks.{blocks}
 use Rattle.hk_spec_streams.specs.Records.{ForStation}
 use Rattle.hk_spec_matching.specs.Catalogue.{Songs, version}
 use Rattle.hk_spec_lines.specs.Lines.{printed_text}
-use Rattle.hk_spec_runs.specs.Desk.{Rules, Desk}
+use Rattle.hk_spec_runs.specs.Desk.{Desk}
+use Rattle.hk_spec_settings.specs.Settings.{Rules}
 use Rattle.hk_spec_runs.specs.Replay.{Listener, Scene, arrived, for_station, reports, report, heard}
 use Rattle.hk_report.specs.Fronts.{WroteFront}
 use Rattle.hk_block.specs.Looker.{ShelfView}

@@ -2,7 +2,8 @@
 use Rattle.std.proofs.Common.{◌≡◌, ℕ, ◌+◌, [], ◌∷◌, ◌++◌, refl, sym, subst, arith}
 use Rattle.std.specs.Prelude.{replicate}
 use Rattle.std.proofs.lemmas.List.{replicate-append-replicate}
-use Rattle.hk_spec_runs.specs.Desk.{Rules, new_desk}
+use Rattle.hk_spec_runs.specs.Desk.{new_desk}
+use Rattle.hk_spec_settings.specs.Settings.{Rules}
 use Rattle.hk_spec_streams.specs.Records.{arrivals}
 use Rattle.hk_spec_streams.specs.Pieces.{pieces_within}
 use Rattle.hk_spec_matching.specs.Catalogue.{version}

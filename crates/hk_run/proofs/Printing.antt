@@ -12,7 +12,7 @@ use Rattle.hk_spec_streams.specs.Pieces.{completed, fault_of}
 use Rattle.hk_spec_streams.specs.Records.{Arrival, ForStation, ForOperator, arrival_after, open_bytes, input_met}
 use Rattle.hk_spec_streams.specs.Operator.{Command, commands, operator_met}
 use Rattle.hk_spec_lines.specs.Lines.{Printed, Replied, printed_text}
-use Rattle.hk_spec_runs.specs.Desk.{Rules}
+use Rattle.hk_spec_settings.specs.Settings.{Rules}
 use Rattle.hk_spec_runs.specs.Replay.{Scene, arrived, for_station, obeyed, reply_to, heard, reports}
 use Rattle.hk_player.specs.Playing.{Goes}
 use Rattle.hk_player.proofs.Faults.{seen-more}

@@ -7,7 +7,7 @@ use Rattle.hk_spec_streams.specs.Records.{input_met}
 use Rattle.hk_spec_streams.proofs.FirstFault.{fault_of-none}
 use Rattle.hk_base.specs.declared.plain.What.{What}
 use Rattle.hk_spec_lines.specs.Lines.{Printed, Replied, printed_text, reply_line}
-use Rattle.hk_spec_runs.specs.Desk.{Rules}
+use Rattle.hk_spec_settings.specs.Settings.{Rules}
 use Rattle.hk_spec_runs.specs.Replay.{Scene}
 use Rattle.hk_records.specs.Reader.{HasRead, came_at, limit_of, stations_of}
 use Rattle.hk_records.specs.declared.reader.Came.{Came}

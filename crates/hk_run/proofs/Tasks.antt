@@ -2,7 +2,7 @@
 use Rattle.std.proofs.Common.{◌≡◌, [], refl}
 use Rattle.hk_spec_streams.specs.Pieces.{pieces_within}
 use Rattle.hk_spec_streams.specs.Records.{arrivals}
-use Rattle.hk_spec_runs.specs.Desk.{Rules}
+use Rattle.hk_spec_settings.specs.Settings.{Rules}
 use Rattle.hk_spec_runs.specs.Outcome.{task_of}
 use Rattle.hk_spec_runs.specs.Replay.{scene_of, replay}
 use Rattle.hk_spec_runs.specs.Words.{Replay}

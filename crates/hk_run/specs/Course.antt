@@ -11,7 +11,7 @@ use Rattle.hk_spec_streams.specs.Blocks.{blocks}
 use Rattle.hk_spec_streams.specs.Station.{station_wrong}
 use Rattle.hk_spec_streams.specs.Records.{arrivals, input_met, open_record}
 use Rattle.hk_spec_lines.specs.Lines.{printed_text, station_line}
-use Rattle.hk_spec_runs.specs.Desk.{Rules}
+use Rattle.hk_spec_settings.specs.Settings.{Rules}
 use Rattle.hk_spec_runs.specs.Replay.{Listener, Scene, opening, arrived, summary, end_of}
 use Rattle.hk_spec_runs.specs.Outcome.{has_ended}
 use Rattle.hk_player.specs.Course.{Course}

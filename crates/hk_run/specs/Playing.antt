@@ -5,7 +5,7 @@ use Rattle.hk_spec_streams.specs.Pieces.{is_one_of}
 use Rattle.hk_spec_streams.specs.Operator.{commands}
 use Rattle.hk_spec_streams.specs.Records.{input_fault}
 use Rattle.hk_spec_lines.specs.Lines.{Printed, printed_text}
-use Rattle.hk_spec_runs.specs.Desk.{Rules}
+use Rattle.hk_spec_settings.specs.Settings.{Rules}
 use Rattle.hk_spec_runs.specs.Replay.{Scene}
 use Rattle.hk_records.specs.Reader.{HasRead, limit_of, stations_of}
 use Rattle.hk_report.specs.Fronts.{WroteFront}

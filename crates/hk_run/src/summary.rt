@@ -2,7 +2,7 @@
 ghost use Rattle.std.specs.Prelude.{◌≡◌, ◌≤◌, List, OnOk, OnErr, IfOk};
 ghost use Rattle.hk_base.specs.Devices.{Wrote, Rose};
 ghost use Rattle.hk_report.specs.Fronts.{WroteFront};
-ghost use Rattle.hk_spec_runs.specs.Desk.{Rules};
+ghost use Rattle.hk_spec_settings.specs.Settings.{Rules};
 ghost use Rattle.hk_spec_runs.specs.Replay.{Listener};
 ghost use Rattle.hk_run.specs.Holding.{AreHearing, ForListeners};
 ghost use Rattle.hk_station.specs.Hearing.{ForEach, number_of};
