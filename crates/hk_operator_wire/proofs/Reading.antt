@@ -14,10 +14,10 @@ use Rattle.hk_spec_streams.specs.Commands.{numbers, command_length_fits}
 use Rattle.hk_spec_streams.proofs.CommandRows.{is_kind}
 use Rattle.hk_spec_streams.proofs.GrowingPackets.{over}
 use Rattle.hk_spec_streams.proofs.GrowingCommands.{no_packets, last_command-append, ends_at_start-is}
-use Rattle.hk_station_wire.specs.Held.{IsLast, is_over}
-use Rattle.hk_station_wire.specs.declared.packet.LastPacket.{LastPacket}
-use Rattle.hk_station_wire.specs.declared.packet.LengthSize.{LengthSize}
-use Rattle.hk_station_wire.specs.declared.packet.LengthSize.TheVariants.{Four}
+use Rattle.hk_wire.specs.Held.{IsLast, is_over}
+use Rattle.hk_wire.specs.declared.packet.LastPacket.{LastPacket}
+use Rattle.hk_wire.specs.declared.packet.LengthSize.{LengthSize}
+use Rattle.hk_wire.specs.declared.packet.LengthSize.TheVariants.{Four}
 use Rattle.hk_operator_wire.specs.declared.item.OpItem.TheVariants as items
 use Rattle.hk_operator_wire.specs.Items.{last_command, head_of, item_of}
 use Rattle.hk_operator_wire.specs.Heads.{head_fault, hello_allows, hello_outcome}

@@ -2,8 +2,8 @@
 use Rattle.std.specs.Prelude.{ℕ, ◌-◌, ◌%◌, ◌==◌, Bool, true, false, ◌&&◌, if◌then◌else◌, nat_lt, List, length, drop, slice_index, ⊤}
 use Rattle.std.specs.Int.{w32, from_be_bytes}
 use Rattle.std.specs.Option.{option_map_or}
-use Rattle.hk_station_wire.specs.Held.{length_in}
-use Rattle.hk_station_wire.specs.declared.packet.LengthSize.TheVariants.{Four}
+use Rattle.hk_wire.specs.Held.{length_in}
+use Rattle.hk_wire.specs.declared.packet.LengthSize.TheVariants.{Four}
 use Rattle.hk_operator_wire.specs.declared.head.Head.{Head}
 use Rattle.hk_operator_wire.specs.declared.item.OpItem.{OpItem}
 use Rattle.hk_operator_wire.specs.declared.item.OpItem.TheVariants as items

@@ -4,8 +4,8 @@ use Rattle.std.specs.Int.{w32, from_be_bytes}
 use Rattle.hk_base.specs.declared.plain.WireFault.{WireFault}
 use Rattle.hk_operator_wire.specs.declared.reader.OpReader.{OpReader}
 use Rattle.hk_operator_wire.specs.declared.wire.OpWire.{OpWire}
-use Rattle.hk_station_wire.specs.Held.{IsLast, count_of}
-use Rattle.hk_station_wire.specs.Kept.{Keeps, passage_limit, fault_kept}
+use Rattle.hk_wire.specs.Held.{IsLast, count_of}
+use Rattle.hk_wire.specs.Kept.{Keeps, passage_limit, fault_kept}
 use Rattle.hk_spec_sound.specs.Limits.{CHANNELS, FACTORS}
 use Rattle.hk_spec_streams.specs.Pieces.{is_one_of}
 use Rattle.hk_spec_streams.specs.Grammar.{packet_size}

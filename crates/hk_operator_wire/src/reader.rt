@@ -3,15 +3,15 @@ ghost use Rattle.std.specs.Prelude.{◌≡◌, ◌≤◌, ◌<◌, ◌+◌, ◌^
 ghost use Rattle.std.specs.Result.{result_err};
 ghost use Rattle.hk_spec_streams.specs.Operator.{operator_grammar, operator_met};
 ghost use Rattle.hk_spec_streams.specs.Grammar.{ends_at_start};
-ghost use Rattle.hk_station_wire.specs.Held.{length_size, IsLast};
-ghost use Rattle.hk_station_wire.specs.declared.packet.LengthSize.TheVariants.{Four};
+ghost use Rattle.hk_wire.specs.Held.{length_size, IsLast};
+ghost use Rattle.hk_wire.specs.declared.packet.LengthSize.TheVariants.{Four};
 ghost use Rattle.hk_operator_wire.specs.Heads.{hello_outcome};
 
 use crate::head::{Head, brought_by, head_fault, hello_allows};
 use crate::item::OpItem;
 use crate::recent::LastFour;
 use hk_base::WireFault;
-use hk_station_wire::{LastPacket, LengthSize};
+use hk_wire::{LastPacket, LengthSize};
 
 const HELLO_SIZE: u64 = 4;
 

@@ -1,7 +1,7 @@
 use Rattle.std.proofs.Common.{◌≡◌, ap, ◌∙◌, subst, length, arith}
 use Rattle.std.specs.Prelude.{◌||◌}
 use Rattle.std.proofs.lemmas.Bool.{ne_eqb}
-use Rattle.hk_station_wire.specs.Held.{is_over}
+use Rattle.hk_wire.specs.Held.{is_over}
 use Rattle.hk_operator_wire.specs.Items.{head_of, brought_by, brought, joined, is_whole_command}
 use Rattle.hk_operator_wire.proofs.Bringing.{brought-number}
 use Rattle.hk_operator_wire.proofs.reader.OpReader.item.Goals as goal

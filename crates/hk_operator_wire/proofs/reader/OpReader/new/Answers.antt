@@ -1,5 +1,5 @@
 use Rattle.std.proofs.Common.{[], sym, subst, arith}
-use Rattle.hk_station_wire.specs.Held.{IsLast}
+use Rattle.hk_wire.specs.Held.{IsLast}
 use Rattle.hk_operator_wire.specs.Heads.{Ends}
 use Rattle.hk_operator_wire.specs.Taken.{IsInOrder}
 use Rattle.hk_operator_wire.proofs.Reading.{in_hello}

@@ -1,7 +1,7 @@
 use Rattle.std.proofs.Common.{◌≡◌, ◌++◌, ◌∷◌, [], ap, ◌∙◌, sym, subst, arith}
 use Rattle.std.specs.Prelude.{IfOk}
 use Rattle.std.specs.Result.{result_err}
-use Rattle.hk_station_wire.specs.Held.{IsLast}
+use Rattle.hk_wire.specs.Held.{IsLast}
 use Rattle.hk_operator_wire.specs.Items.{last_command, head_of, item_of}
 use Rattle.hk_operator_wire.specs.Heads.{Ends, head_fault, hello_outcome}
 use Rattle.hk_operator_wire.proofs.Reading.{next_bytes, last_command-next, in_hello, hello_stays, hello_met, hello_item, packet_met, either, last_is, some_next, on_ok, next_last}

@@ -1,7 +1,7 @@
 use Rattle.std.proofs.Common.{◌≡◌, ◌++◌, ◌∷◌, [], length, None, ◌∙◌, ap, sym, subst, arith}
 use Rattle.hk_spec_streams.specs.Operator.{operator_met}
-use Rattle.hk_station_wire.specs.Kept.{EndsAtLimit, fault_kept}
-use Rattle.hk_station_wire.proofs.StillKept.{no_such, fault_at}
+use Rattle.hk_wire.specs.Kept.{EndsAtLimit, fault_kept}
+use Rattle.hk_wire.proofs.StillKept.{no_such, fault_at}
 use Rattle.hk_operator_wire.specs.Items.{last_command, IsPossible}
 use Rattle.hk_operator_wire.proofs.Ending.{possible}
 use Rattle.hk_operator_wire.proofs.Reading.{too_long}

@@ -1,7 +1,7 @@
 use Rattle.std.proofs.Common.{rules, ◌≡◌, ◌++◌, ◌∷◌, [], length, Some, None, ap, sym, ◌∙◌, refl}
 use Rattle.hk_base.specs.declared.plain.WireFault.TheVariants.{TooLong}
-use Rattle.hk_station_wire.proofs.StillKept.{keeps_fault, keeps_all, keeps_some}
-use Rattle.hk_station_wire.proofs.passage.Passage.next_place.Goals as goal
+use Rattle.hk_wire.proofs.StillKept.{keeps_fault, keeps_all, keeps_some}
+use Rattle.hk_wire.proofs.passage.Passage.next_place.Goals as goal
 
 pub returns-in-Some-clause-keeps : goal.returns-in-Some-clause-keeps
 returns-in-Some-clause-keeps c = λ met text byte ends kept. keeps_fault met c.args.self.now text byte kept c.in-Some.fault c.in-Some.is

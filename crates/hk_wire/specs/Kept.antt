@@ -3,7 +3,7 @@ use Rattle.std.specs.Prelude.{◌≡◌, ℕ, List, [], ◌∷◌, ◌++◌, len
 use Rattle.hk_base.specs.declared.plain.WireFault.{WireFault}
 use Rattle.hk_base.specs.declared.plain.WireFault.TheVariants.{TooLong}
 use Rattle.hk_spec_streams.specs.Pieces.{fault_of, seen_of}
-use Rattle.hk_station_wire.specs.declared.passage.Passage.{Passage}
+use Rattle.hk_wire.specs.declared.passage.Passage.{Passage}
 
 -- what a text's last byte meets, by the most bytes that are taken
 abbrev pub Met : Type 0

@@ -1,10 +1,10 @@
 -- What is kept of the last packet.
 use Rattle.std.specs.Prelude.{◌≡◌, ℕ, ◌==◌, Bool, ◌||◌, List, length, take, drop}
 use Rattle.std.specs.Int.{Width, w16, w32, byte_len, from_be_bytes}
-use Rattle.hk_station_wire.specs.declared.gathered.Gathered.{Gathered}
-use Rattle.hk_station_wire.specs.declared.packet.LengthSize.{LengthSize}
-use Rattle.hk_station_wire.specs.declared.packet.LengthSize.TheVariants.{Two, Four}
-use Rattle.hk_station_wire.specs.declared.packet.LastPacket.{LastPacket}
+use Rattle.hk_wire.specs.declared.gathered.Gathered.{Gathered}
+use Rattle.hk_wire.specs.declared.packet.LengthSize.{LengthSize}
+use Rattle.hk_wire.specs.declared.packet.LengthSize.TheVariants.{Two, Four}
+use Rattle.hk_wire.specs.declared.packet.LastPacket.{LastPacket}
 use Rattle.hk_spec_streams.specs.Grammar.{packet_size}
 
 abbrev pub gathered : Gathered → List ℕ

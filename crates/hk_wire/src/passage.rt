@@ -17,7 +17,7 @@ pub struct Passage {
 }
 
 impl Passage {
-    ghost use Rattle.hk_station_wire.specs.Kept.{Met, Keeps, EndsAtLimit, passage_limit, bytes_taken, fault_kept};
+    ghost use Rattle.hk_wire.specs.Kept.{Met, Keeps, EndsAtLimit, passage_limit, bytes_taken, fault_kept};
 
     /// No byte yet, and at most `limit` bytes to come.
     pub fn new(limit: u64) -> Passage

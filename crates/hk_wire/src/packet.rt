@@ -21,7 +21,7 @@ pub struct LastPacket {
 }
 
 impl LastPacket {
-    ghost use Rattle.hk_station_wire.specs.Held.{IsLast, length_size, count_of, is_over, length_in};
+    ghost use Rattle.hk_wire.specs.Held.{IsLast, length_size, count_of, is_over, length_in};
 
     /// No packet yet.
     pub fn new(size: LengthSize) -> LastPacket

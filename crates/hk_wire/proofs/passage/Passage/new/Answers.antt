@@ -1,6 +1,6 @@
 use Rattle.std.proofs.Common.{refl}
 use Rattle.hk_spec_streams.specs.Pieces.{first_met}
-use Rattle.hk_station_wire.proofs.passage.Passage.new.Goals as goal
+use Rattle.hk_wire.proofs.passage.Passage.new.Goals as goal
 
 pub returns-clause-keeps : goal.returns-clause-keeps
 unfolding first_met

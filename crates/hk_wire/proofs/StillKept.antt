@@ -3,8 +3,8 @@ use Rattle.std.proofs.Common.{◌≡◌, ℕ, ◌+◌, List, [], ◌∷◌, ◌+
 use Rattle.hk_base.specs.declared.plain.WireFault.{WireFault}
 use Rattle.hk_spec_streams.specs.Pieces.{fault_of, seen_of}
 use Rattle.hk_spec_streams.proofs.NextFault.{seen_of-all, fault_of-none, fault_of-some, fault_of-stays}
-use Rattle.hk_station_wire.specs.declared.passage.Passage.{Passage}
-use Rattle.hk_station_wire.specs.Kept.{Met, Keeps}
+use Rattle.hk_wire.specs.declared.passage.Passage.{Passage}
+use Rattle.hk_wire.specs.Kept.{Met, Keeps}
 
 pub no_such : {A : Type 0} {o : Option A} (x : A) → o ≡ Some x → o ≡ None → ⊥
 no_such x some none = let odd : Some x ≡ None = sym some ∙ none in cc

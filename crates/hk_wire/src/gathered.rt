@@ -11,7 +11,7 @@ pub struct Gathered {
 }
 
 impl Gathered {
-    ghost use Rattle.hk_station_wire.specs.Held.{gathered};
+    ghost use Rattle.hk_wire.specs.Held.{gathered};
 
     /// No bytes yet.
     pub fn new() -> Gathered

@@ -1,7 +1,7 @@
 use Rattle.std.proofs.Common.{◌≡◌, ℕ, ◌∙◌, ◌+◌, ◌-◌, ap, sym, refl, arith, take, drop, List, [], ◌∷◌, suc}
 use Rattle.std.proofs.lemmas.List.{drop-take}
 use Rattle.std.specs.Int.{w32, from_be_bytes}
-use Rattle.hk_station_wire.proofs.packet.LastPacket.number.Goals as goal
+use Rattle.hk_wire.proofs.packet.LastPacket.number.Goals as goal
 
 first_four : (n : ℕ) (bytes : List ℕ) → from_be_bytes w32 (take (suc (suc (suc (suc n)))) bytes) ≡ from_be_bytes w32 bytes
 first_four n [] = refl
