@@ -3,19 +3,19 @@ ghost use Rattle.std.specs.Prelude.{◌≡◌, ◌==◌};
 ghost use Rattle.std.specs.List.{list_any};
 ghost use Rattle.hk_spec_sound.specs.Limits.{CHANNELS, FACTORS};
 
-static CHANNELS: [u8; 2] = [1, 2];
+static CHANNELS: [u64; 2] = [1, 2];
 
-static FACTORS: [u8; 4] = [1, 2, 4, 8];
+static FACTORS: [u64; 4] = [1, 2, 4, 8];
 
 /// Whether sound may have so many channels.
-pub fn allows_channels(channels: u8) -> bool
+pub fn allows_channels(channels: u64) -> bool
     ensures { result ≡ list_any (λ allowed. allowed == channels) CHANNELS }
 {
     CHANNELS.contains(&channels)
 }
 
 /// Whether sound may be decimated by this factor.
-pub fn allows_factor(factor: u8) -> bool
+pub fn allows_factor(factor: u64) -> bool
     ensures { result ≡ list_any (λ allowed. allowed == factor) FACTORS }
 {
     FACTORS.contains(&factor)

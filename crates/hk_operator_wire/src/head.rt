@@ -37,8 +37,8 @@ fn has_bad_form(row: Row, head: Head) -> bool
 {
     row.content.is_form()
         && match head.count {
-            10 => !allows_channels(head.channels),
-            11 => !allows_factor(head.factor),
+            10 => !allows_channels(head.channels.into()),
+            11 => !allows_factor(head.factor.into()),
             _ => false,
         }
 }

@@ -1,3 +1,4 @@
+pub mod Seen
 pub mod Arriving
 pub mod Printing
 pub mod Stations

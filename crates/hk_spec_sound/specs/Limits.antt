@@ -1,5 +1,5 @@
 -- The numbers that may be set, each with the values that it may have.
-use Rattle.std.specs.Prelude.{ℕ, ◌≤◌, ◌^◌, Bool, ◌&&◌, nat_le, List, [], ◌∷◌}
+use Rattle.std.specs.Prelude.{ℕ, ◌^◌, Bool, ◌&&◌, nat_le, max, List, [], ◌∷◌}
 
 -- from one number to another, both among them
 pub record Range : Type 0 where
@@ -16,12 +16,16 @@ CHANNELS = 1 ∷ 2 ∷ []
 abbrev pub FACTORS : List ℕ
 FACTORS = 1 ∷ 2 ∷ 4 ∷ 8 ∷ []
 
--- the greatest of them
+-- the greatest of some numbers, 0 where there are none
+abbrev pub greatest : List ℕ → ℕ
+greatest [] = 0
+greatest (n ∷ ns) = max n (greatest ns)
+
 abbrev pub MOST_CHANNELS : ℕ
-MOST_CHANNELS = 2
+MOST_CHANNELS = greatest CHANNELS
 
 abbrev pub MOST_FACTOR : ℕ
-MOST_FACTOR = 8
+MOST_FACTOR = greatest FACTORS
 
 -- how many bits of a print may be weak
 abbrev pub FLIPS : Range

@@ -1,6 +1,7 @@
 -- An order as the definitions have it.
-use Rattle.std.specs.Prelude.{◌≡◌, ℕ, ◌≤◌, true, [], ◌∷◌}
+use Rattle.std.specs.Prelude.{◌≡◌, ℕ, ◌≤◌, true}
 use Rattle.hk_spec_sound.specs.Prints.{full_analysis}
+use Rattle.hk_spec_sound.specs.Limits.{Range, CHANNELS, FACTORS, FLIPS, HOP, STATIONS, SONGS, POSITIONS, VERSIONS, BYTES, SEED}
 use Rattle.hk_spec_streams.specs.Pieces.{is_one_of}
 use Rattle.hk_spec_matching.specs.Matching.{MOST_ERRORS}
 use Rattle.hk_spec_settings.specs.Settings.{Rules}
@@ -28,27 +29,27 @@ order_meant (Replay rules) = words.Replay (rules_meant rules)
 order_meant (Print rules) = words.Print (printing_meant rules)
 order_meant (Make seed rules) = words.Make seed (rules_meant rules)
 
-abbrev pub IsWithin : ℕ → ℕ → ℕ → Type 0
-IsWithin low high n = (low ≤ n) × (n ≤ high)
+abbrev pub IsWithin : Range → ℕ → Type 0
+IsWithin range n = (range.least ≤ n) × (n ≤ range.most)
 
 -- the ranges of a run's rules
 pub record RulesFit (r : RunRules) : Type 0 where
-  pub stations : IsWithin 1 64 r.stations
-  pub flips : IsWithin 0 10 r.flips
-  pub hop : IsWithin 1 256 r.hop
-  pub songs : IsWithin 1 65536 r.songs
-  pub positions : IsWithin 256 16777216 r.positions
-  pub versions : IsWithin 1 1000000000 r.versions
-  pub bytes : IsWithin 1 4000000000000000000 r.bytes
+  pub stations : IsWithin STATIONS r.stations
+  pub flips : IsWithin FLIPS r.flips
+  pub hop : IsWithin HOP r.hop
+  pub songs : IsWithin SONGS r.songs
+  pub positions : IsWithin POSITIONS r.positions
+  pub versions : IsWithin VERSIONS r.versions
+  pub bytes : IsWithin BYTES r.bytes
 
 -- the ranges of the sound that is printed
 pub record PrintingFits (p : PrintRules) : Type 0 where
-  pub channels : IsWithin 1 2 p.channels
-  pub factor : is_one_of (1 ∷ 2 ∷ 4 ∷ 8 ∷ []) p.factor ≡ true
-  pub flips : IsWithin 0 10 p.flips
-  pub bytes : IsWithin 1 4000000000000000000 p.bytes
+  pub channels : is_one_of CHANNELS p.channels ≡ true
+  pub factor : is_one_of FACTORS p.factor ≡ true
+  pub flips : IsWithin FLIPS p.flips
+  pub bytes : IsWithin BYTES p.bytes
 
 abbrev pub OrderFits : Order → Type 0
 OrderFits (Replay rules) = RulesFit rules
 OrderFits (Print rules) = PrintingFits rules
-OrderFits (Make seed rules) = (seed ≤ 2147483647) × RulesFit rules
+OrderFits (Make seed rules) = IsWithin SEED seed × RulesFit rules
