@@ -42,6 +42,10 @@ Brings (Err fault) reader limit text = station_met limit text ≡ Some fault
 abbrev pub limit_of : Wire → ℕ
 limit_of wire = wire.passage.limit
 
+-- how many bytes were taken before the fault, or in all
+abbrev pub taken_of : Wire → ℕ
+taken_of wire = wire.passage.taken
+
 -- the fault that the wire has met
 abbrev pub fault_met : Wire → Option WireFault
 fault_met wire = wire.passage.fault
