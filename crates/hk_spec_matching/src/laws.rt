@@ -3,7 +3,8 @@ ghost use Rattle.std.specs.Prelude.{◌≡◌, [], ◌∷◌, ◌++◌, replicat
 ghost use Rattle.hk_spec_matching.specs.Examples.{SMALL, TWICE, CROWDED, song, query};
 ghost use Rattle.hk_spec_matching.specs.Catalogue.{Song, Limits, Songs, Add, Withdraw, version};
 ghost use Rattle.hk_spec_matching.specs.Matching.{matches, MOST_ERRORS};
-ghost use Rattle.hk_spec_matching.specs.Cost.{subsets, bucket_of, bucket_bits, cost};
+ghost use Rattle.hk_spec_matching.specs.Buckets.{bucket_bits, bucket_of};
+ghost use Rattle.hk_spec_matching.specs.Cost.{subsets, cost};
 
 /// Blocks of two prints against songs, with at most three errors.
 #[tactic(auto, unfolding(crate::specs::Matching::matches, crate::specs::Matching::match_at, crate::specs::Matching::matches_of_song, hk_spec_sound::specs::Windows::windows, std::specs::Prelude::count_ones))]
@@ -32,6 +33,7 @@ pub fn table_examples()
     ensures least { bucket_bits 256 ≡ 8 }
     ensures default { bucket_bits 1048576 ≡ 20 }
     ensures greatest { bucket_bits 16777216 ≡ 20 }
+    ensures zero { bucket_of 256 0 ≡ 0 }
     ensures one { bucket_of 256 1 ≡ 158 }
     ensures two { bucket_of 256 2 ≡ 60 }
 {}
