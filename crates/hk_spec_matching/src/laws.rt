@@ -26,7 +26,7 @@ pub fn match_examples()
 {}
 
 /// Subsets of masks, and buckets.
-#[tactic(auto, unfolding(crate::specs::Cost::subsets))]
+#[tactic(auto, unfolding(crate::specs::Cost::subsets, crate::specs::Buckets::bucket_bits, crate::specs::Buckets::bucket_of))]
 pub fn table_examples()
     ensures subsets { subsets 5 ≡ 0 ∷ 1 ∷ 4 ∷ 5 ∷ [] }
     ensures none { subsets 0 ≡ 0 ∷ [] }
@@ -49,7 +49,7 @@ pub fn version_examples()
 {}
 
 /// What a look costs: words 0 and 1 are looked up, and each is at one position.
-#[tactic(auto, unfolding(crate::specs::Cost::subsets, crate::specs::Cost::cost))]
+#[tactic(auto, unfolding(crate::specs::Cost::subsets, crate::specs::Cost::cost, crate::specs::Buckets::bucket_bits, crate::specs::Buckets::bucket_of))]
 pub fn cost_example()
     ensures two { cost 256 (query (record { word = 0; mask = 1 } ∷ [])) ((7, song (0 ∷ 1 ∷ 2 ∷ [])) ∷ []) ≡ 2 }
     ensures one { cost 256 (query (record { word = 0; mask = 0 } ∷ [])) ((7, song (0 ∷ 1 ∷ 2 ∷ [])) ∷ []) ≡ 1 }
