@@ -23,6 +23,13 @@ class Pipe:
     piece: int
 
 
+@dataclass
+class Broken:
+    """A standard input that is a connection, which breaks behind these bytes: the next read fails."""
+
+    data: bytes
+
+
 class Output(Enum):
     """Standard outputs and standard errors that can't be read back."""
 
@@ -42,9 +49,9 @@ class Room:
 class Case:
     """`out` and `error` are what it has to write, and looked at where they can be read back.
 
-    Words are texts, or bytes where they aren't UTF-8. `input` is bytes, a Pipe or an Input; `output` and `complaints`
-    are standard output and standard error where these aren't plain files. `memory` is the most address space that the
-    program gets, in bytes. Where `unread` is true nothing of the input may have been taken.
+    Words are texts, or bytes where they aren't UTF-8. `input` is bytes, a Pipe, a Broken or an Input; `output` and
+    `complaints` are standard output and standard error where these aren't plain files. `memory` is the most address
+    space that the program gets, in bytes. Where `unread` is true nothing of the input may have been taken.
     """
 
     name: str

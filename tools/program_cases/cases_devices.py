@@ -1,21 +1,39 @@
 """Standard input and standard output that fail, and memory that is refused."""
 
-from case import NO_MEMORY, Case, Input, Output, Pipe, Room
-from streams import FIRST, FIRST_REPLIES, FIRST_REPORT, PRINTS, s
+from case import NO_MEMORY, Broken, Case, Input, Output, Pipe, Room
+from streams import FIRST, FIRST_LINE, FIRST_OPERATOR, FIRST_REPLIES, FIRST_REPORT, PRINTS, s
 
 SOUND = bytes(36864)
+LINES = "".join(f"{n} 00000000 0000000f\n" for n in range(256))
+FAULT = "R read-fault\n"
 FORM = ["--channels", "1", "--factor", "1"]
 
 READS = [
-    Case(f"{command} with standard input that is {given.value}", [command], 5, "R read-fault\n", input=given)
+    Case(f"{command} with standard input that is {given.value}", [command], 5, FAULT, input=given)
     for command in ("replay", "print")
     for given in (Input.FOLDER, Input.WRITE_ONLY)
 ] + [
-    Case("replay with standard input closed", ["replay"], 5, "R read-fault\n", input=Input.CLOSED),
-    Case("print with standard input closed", ["print"], 5, "R read-fault\n", input=Input.CLOSED),
+    Case("replay with standard input closed", ["replay"], 5, FAULT, input=Input.CLOSED),
+    Case("print with standard input closed", ["print"], 5, FAULT, input=Input.CLOSED),
     Case("an input through a pipe", ["replay"], 0, FIRST_REPORT, input=Pipe(FIRST, 65536)),
     Case("an input through a pipe in pieces of seven bytes", ["replay"], 0, FIRST_REPORT, input=Pipe(FIRST, 7)),
     Case("an input through a pipe byte by byte", ["replay"], 0, FIRST_REPORT, input=Pipe(FIRST, 1)),
+]
+
+BREAKS = [
+    Case("a read that fails behind a block", ["replay"], 5, FIRST_REPLIES + FIRST_LINE + FAULT, input=Broken(FIRST)),
+    Case("a read that fails inside a block", ["replay"], 5, FIRST_REPLIES + FAULT, input=Broken(FIRST[:-1])),
+    Case("a read that fails behind a record", ["replay"], 5, FIRST_REPLIES + FAULT, input=Broken(FIRST_OPERATOR)),
+    Case("a read that fails behind prints", ["print", *FORM], 5, LINES + FAULT, input=Broken(SOUND)),
+    Case("a read that fails behind a bad record", ["replay"], 7, "R bad-record 0\n", input=Broken(b"X")),
+    Case("a read that fails behind the limit", ["replay", "--bytes", "10"], 7, "R too-long 10\n", input=Broken(FIRST)),
+    Case(
+        "a read that fails at the limit",
+        ["replay", "--bytes", "1045"],
+        5,
+        FIRST_REPLIES + FAULT,
+        input=Broken(FIRST_OPERATOR),
+    ),
 ]
 
 WRITES = [
@@ -54,4 +72,4 @@ MEMORY = [
     ),
 ]
 
-CASES = READS + WRITES + MEMORY
+CASES = READS + BREAKS + WRITES + MEMORY

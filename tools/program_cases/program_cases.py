@@ -12,6 +12,7 @@ import argparse
 import os
 import resource
 import signal
+import socket
 import subprocess
 import sys
 import tempfile
@@ -24,7 +25,7 @@ import cases_faults
 import cases_replay
 import cases_sound
 import cases_words
-from case import Input, Output, Pipe, Room
+from case import Broken, Input, Output, Pipe, Room
 
 ROOT = Path(__file__).resolve().parents[2]
 PROGRAM = ROOT / "crates/hkreplay/out/hkreplay"
@@ -42,10 +43,12 @@ class Run:
         self.program, self.case, self.folder = program, case, Path(folder)
 
     def input_file(self):
-        """The standard input, and what is to be written into it while the program runs."""
+        """The standard input; a pipe is filled while the program runs."""
         given = self.case.input
         if isinstance(given, Pipe):
             return subprocess.PIPE
+        if isinstance(given, Broken):
+            return broken_connection(given.data)
         if given is Input.CLOSED:
             return subprocess.DEVNULL
         if given is Input.FOLDER:
@@ -112,6 +115,15 @@ class Run:
                     yield f"standard {'output' if name == 'out' else name}: {difference(found, wanted.encode())}"
         if case.unread and os.lseek(stdin, 0, os.SEEK_CUR):
             yield "some of the input was read"
+
+
+def broken_connection(data):
+    """A socket that has the bytes. Its other end was closed with bytes unread, so the read behind them fails."""
+    ours, theirs = socket.socketpair()
+    theirs.sendall(data)
+    ours.sendall(b"unread")
+    theirs.close()
+    return ours.detach()
 
 
 def pour(pipe, stdin):
