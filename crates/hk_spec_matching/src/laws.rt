@@ -3,7 +3,8 @@ ghost use Rattle.std.specs.Prelude.{◌≡◌, [], ◌∷◌, ◌++◌, replicat
 ghost use Rattle.hk_spec_matching.specs.Examples.{SMALL, TWICE, CROWDED, song, query};
 ghost use Rattle.hk_spec_matching.specs.Catalogue.{Song, Limits, Songs, Add, Withdraw, version};
 ghost use Rattle.hk_spec_matching.specs.Matching.{matches, MOST_ERRORS};
-ghost use Rattle.hk_spec_matching.specs.Cost.{subsets, bucket_of, bucket_bits, cost};
+ghost use Rattle.hk_spec_matching.specs.Buckets.{bucket_bits, bucket_of};
+ghost use Rattle.hk_spec_matching.specs.Cost.{subsets, cost};
 
 /// Blocks of two prints against songs, with at most three errors.
 #[tactic(auto, unfolding(crate::specs::Matching::matches, crate::specs::Matching::match_at, crate::specs::Matching::matches_of_song, hk_spec_sound::specs::Windows::windows, std::specs::Prelude::count_ones))]
@@ -25,13 +26,14 @@ pub fn match_examples()
 {}
 
 /// Subsets of masks, and buckets.
-#[tactic(auto, unfolding(crate::specs::Cost::subsets))]
+#[tactic(auto, unfolding(crate::specs::Cost::subsets, crate::specs::Buckets::bucket_bits, crate::specs::Buckets::bucket_of))]
 pub fn table_examples()
     ensures subsets { subsets 5 ≡ 0 ∷ 1 ∷ 4 ∷ 5 ∷ [] }
     ensures none { subsets 0 ≡ 0 ∷ [] }
     ensures least { bucket_bits 256 ≡ 8 }
     ensures default { bucket_bits 1048576 ≡ 20 }
     ensures greatest { bucket_bits 16777216 ≡ 20 }
+    ensures zero { bucket_of 256 0 ≡ 0 }
     ensures one { bucket_of 256 1 ≡ 158 }
     ensures two { bucket_of 256 2 ≡ 60 }
 {}
@@ -47,7 +49,7 @@ pub fn version_examples()
 {}
 
 /// What a look costs: words 0 and 1 are looked up, and each is at one position.
-#[tactic(auto, unfolding(crate::specs::Cost::subsets, crate::specs::Cost::cost))]
+#[tactic(auto, unfolding(crate::specs::Cost::subsets, crate::specs::Cost::cost, crate::specs::Buckets::bucket_bits, crate::specs::Buckets::bucket_of))]
 pub fn cost_example()
     ensures two { cost 256 (query (record { word = 0; mask = 1 } ∷ [])) ((7, song (0 ∷ 1 ∷ 2 ∷ [])) ∷ []) ≡ 2 }
     ensures one { cost 256 (query (record { word = 0; mask = 0 } ∷ [])) ((7, song (0 ∷ 1 ∷ 2 ∷ [])) ∷ []) ≡ 1 }
