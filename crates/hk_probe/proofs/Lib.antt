@@ -4,4 +4,6 @@ pub mod Starts
 pub mod Songs
 pub mod Finds
 pub mod Order
+pub mod Once
+pub mod Places
 pub mod Changes

@@ -1,14 +1,26 @@
 -- What a look finds, one occurrence of a word after another.
-use Rattle.std.specs.Prelude.{ℕ, ◌+◌, ◌-◌, Bool, ◌&&◌, nat_le, if◌then◌else◌, List, length, flat_map, filter_map, Option, None}
+use Rattle.std.specs.Prelude.{ℕ, ◌+◌, ◌-◌, Bool, ◌&&◌, nat_le, if◌then◌else◌, List, [], length, flat_map, filter_map, Option, None}
 use Rattle.std.specs.List.{enumerate_from}
+use Rattle.std.specs.Option.{option_map_or}
 use Rattle.hk_base.specs.declared.plain.Print.{Print}
 use Rattle.hk_base.specs.declared.plain.Match.{Match}
 use Rattle.hk_spec_sound.specs.Windows.{window}
-use Rattle.hk_spec_matching.specs.Catalogue.{Songs}
+use Rattle.hk_spec_matching.specs.Catalogue.{Song, Songs}
 use Rattle.hk_spec_matching.specs.Matching.{Query}
 use Rattle.hk_spec_matching.specs.Occurrences.{Occurrence, occurrences_of}
 use Rattle.hk_spec_matching.specs.Cost.{looked_up}
+use Rattle.hk_table.specs.Store.{Store, song_at}
+use Rattle.hk_table.specs.declared.place.Place.{Place}
+use Rattle.hk_catalogue.specs.Shelves.{entry_of, song_of}
 use Rattle.hk_probe.specs.Comparison.{first_match_at}
+
+-- the song in a slot, with its id
+abbrev pub entry_at : Store → ℕ → ℕ × Song
+entry_at store slot = option_map_or entry_of (song_at store slot) (0, song_of [])
+
+-- the word that stands at a place of the table
+abbrev pub occurrence_at : Store → ℕ → Place → Occurrence
+occurrence_at store word place = record { song = entry_at store place.slot; position = place.pos; word = word }
 
 -- A print's place in the block and a position in a song tell where the block begins there. It does where it begins in the song
 -- and ends in it.
