@@ -13,6 +13,7 @@ use Rattle.hk_table.specs.Index.{Index, all_words, room, slot_at, new_index, wit
 use Rattle.hk_table.specs.Songs.{bucket_at, as_index, HoldSongs, IsKept, IsLonger, slots_in, slot_in}
 use Rattle.hk_table.specs.declared.table.Table.TheInside.{Inside}
 use Rattle.hk_table.proofs.Buckets.{least_bits, most_bits}
+use Rattle.hk_table.proofs.Indexed.{no_words}
 use Rattle.hk_table.proofs.Holding.{none_slot, slot_none, slot_at_head, slots_with, hold_with, slots_without, hold_without}
 
 pub shift_low : (t : Inside) → IsKept t → t.shift < 32
@@ -102,10 +103,6 @@ module _ (t : Inside) (nodes : Store) (slot : ℕ) (kept : IsKept t) (some : IsS
 no_slots : (m : Store) (n : ℕ) → slots_in m (replicate n END) ≡ replicate n None
 no_slots m zero = refl
 no_slots m (suc n) = ap (λ ss. None ∷ ss) (no_slots m n)
-
-no_words : (n : ℕ) → all_words (replicate n None) ≡ []
-no_words zero = refl
-no_words (suc n) = no_words n
 
 head_none : (n slot : ℕ) → get_or (replicate n END) slot END ≡ END
 head_none n slot = elim (cases_lt slot n) [

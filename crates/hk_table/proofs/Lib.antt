@@ -8,3 +8,4 @@ pub mod Adding
 pub mod Holding
 pub mod Finding
 pub mod Kept
+pub mod Indexed
