@@ -6,14 +6,21 @@
 //! and words of every other. The store knows no versions and looks no word up.
 #![tactic(auto)]
 
+mod bucket;
 mod extent;
+mod place;
 mod song;
 mod song_block;
 mod song_store;
+mod table;
 #[cfg(test)]
 mod tests;
+mod walk;
 
 pub use hk_base::{NoMemory, Steps};
+pub use place::Place;
 pub use song::Song;
 pub use song_block::SongBlock;
 pub use song_store::SongStore;
+pub use table::Table;
+pub use walk::Walk;
