@@ -1,7 +1,7 @@
 use Rattle.std.proofs.Common.{◌≡◌, ◌++◌, drop}
 use Rattle.hk_spec_sound.specs.Circle.{refined}
 use Rattle.hk_circle.specs.Points.{pairs}
-use Rattle.hk_circle.proofs.circle.refined.Given as goal
+use Rattle.hk_circle.proofs.quarter.refined.Given as goal
 
 -- what is there, and what is left to come
 abbrev pub invariant-loop-i : goal.invariant-loop-i

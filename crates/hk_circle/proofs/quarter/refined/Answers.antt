@@ -2,8 +2,8 @@ use Rattle.std.proofs.Common.{rules, ◌≡◌, ◌+◌, [], ◌∷◌, ◌++◌
 use Rattle.hk_spec_sound.specs.Circle.{refined}
 use Rattle.hk_circle.specs.Points.{pairs}
 use Rattle.hk_circle.proofs.Refining.{refining_more, refining_last, refining_done}
-use Rattle.hk_circle.proofs.circle.refined.Goals as goal
-use Rattle.hk_circle.proofs.circle.refined.Goals.{else-i-points-via-then-i-points+else-is_err-2, else-i-points-via-else-i-points}
+use Rattle.hk_circle.proofs.quarter.refined.Goals as goal
+use Rattle.hk_circle.proofs.quarter.refined.Goals.{else-i-points-via-then-i-points+else-is_err-2, else-i-points-via-else-i-points}
 
 pub loop-i-init : goal.loop-i-init
 unfolding pairs

@@ -5,7 +5,7 @@ use Rattle.hk_circle.specs.declared.point.Point.{Point}
 use Rattle.hk_circle.specs.Points.{pair, pairs}
 use Rattle.hk_spec_sound.specs.Circle.{quarter, direction, turned, rounded}
 use Rattle.hk_spec_sound.proofs.Quarters.{length-quarter}
-use Rattle.hk_circle.proofs.circle.Circle.direction.Goals as goal
+use Rattle.hk_circle.proofs.quarter.Quarter.direction.Goals as goal
 
 length_points : (points : List Point) → pairs points ≡ quarter 9 → length points ≡ 513
 unfolding pairs
