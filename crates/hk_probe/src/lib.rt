@@ -8,8 +8,10 @@
 mod alone;
 mod comparison;
 mod full_scan;
+mod table_search;
 #[cfg(test)]
 mod tests;
 
 pub use alone::Alone;
 pub use full_scan::scan;
+pub use table_search::look;
