@@ -14,6 +14,8 @@ mod song_block;
 mod song_store;
 mod table;
 #[cfg(test)]
+mod table_tests;
+#[cfg(test)]
 mod tests;
 mod walk;
 
