@@ -6,7 +6,7 @@ ghost use Rattle.hk_block.specs.Ring.{is_full};
 ghost use Rattle.hk_block.specs.Looker.{matches_in};
 ghost use Rattle.hk_catalogue.specs.Shelves.{songs_of, HasLimits};
 ghost use Rattle.hk_catalogue.specs.Shelf.{IsChange, changes_of};
-ghost use Rattle.hk_probe.specs.Single.{new_single, after_publish, publish_answer, past_of, shelf_of};
+ghost use Rattle.hk_probe.specs.Single.{new_single, after_publish, publish_answer, shelf_of, looker_of};
 
 use crate::full_scan::scan;
 use hk_base::{NoMemory, Steps};
@@ -116,21 +116,7 @@ impl Shelf for Alone {
 }
 
 impl Looker for Alone {
-    ghost at = { λ a. a.version };
-
-    ghost past = { λ a. past_of a };
-
-    ghost songs = { λ a. a.songs };
-
-    ghost room = { λ a. a.limits.positions };
-
-    ghost shown = { λ a. None };
-
-    ghost shelf = { λ a. Some (shelf_of a) };
-
-    ghost still = { λ a. true };
-
-    ghost home = { λ a. None };
+    ghost looker = { looker_of };
 
     fn look<L: Ledger>(
         &mut self,
