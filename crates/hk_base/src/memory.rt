@@ -1,7 +1,7 @@
 // A source and a sink in memory, that fail where they are told to.
 ghost use Rattle.std.specs.Prelude.{◌≡◌, ◌≤◌, ◌<◌, ◌+◌, ◌-◌, ◌^◌, ◌↔◌, ℕ, min, max, Some, None, Option, [], drop, take, length, IfOk, IsErr, OnOk, OnErr, IsTrue, false, vec_len, vec_capacity};
 ghost use Rattle.std.specs.Option.{option_map_or};
-ghost use Rattle.hk_base.specs.Devices.{Rose, IfBytes, OnEnd, OnFailed, OnNoFailure, Took, IsNothing, Wrote};
+ghost use Rattle.hk_base.specs.Devices.{Rose, IfBytes, OnEnd, OnNothing, OnFailed, OnNoFailure, Took, IsNothing, Wrote};
 
 use crate::{Failed, Got, NoMemory, Sink, Source};
 use std::alloc::Global;
@@ -60,13 +60,13 @@ impl Source for MemorySource {
         ensures some { IfBytes result (λ n. 1 ≤ n) }
         ensures room { IfBytes result (λ n. n ≤ length into.old) }
         ensures next { IfBytes result (λ n. Took (take n into.new) (Some (bytes_left self.old)) (Some (bytes_left self.new))) }
+        ensures rest_stays { IfBytes result (λ n. drop n into.new ≡ drop n into.old) }
 
         ensures end { OnEnd result (IsNothing (Some (bytes_left self.old))) }
-        ensures end_stays { OnEnd result (bytes_left self.new ≡ bytes_left self.old) }
+        ensures nothing_taken { OnNothing result (bytes_left self.new ≡ bytes_left self.old) }
+        ensures nothing_put { OnNothing result (into.new ≡ into.old) }
 
-        ensures failed_stays { OnFailed result (bytes_left self.new ≡ bytes_left self.old) }
         ensures cause { OnFailed result (Rose self.old.faults self.new.faults) }
-        ensures never_falls { self.old.faults ≤ self.new.faults }
         ensures counts_failures { OnNoFailure result (self.new.faults ≡ self.old.faults) }
 
         // Which reads fail, and how many bytes the others give.
@@ -154,7 +154,6 @@ impl Sink for MemorySink {
 
         ensures failed_stays { OnErr result (bytes_written self.new ≡ bytes_written self.old) }
         ensures cause { OnErr result (Rose self.old.faults self.new.faults) }
-        ensures never_falls { self.old.faults ≤ self.new.faults }
         ensures counts_failures { OnOk result (self.new.faults ≡ self.old.faults) }
 
         // Which writes fail, and how many bytes the others take.

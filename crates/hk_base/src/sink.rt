@@ -21,6 +21,5 @@ pub trait Sink {
 
         ensures failed_stays { OnErr result (written self.new ≡ written self.old) }
         ensures cause { OnErr result (Rose (faults self.old) (faults self.new)) }
-        ensures never_falls { faults self.old ≤ faults self.new }
         ensures counts_failures { OnOk result (faults self.new ≡ faults self.old) };
 }

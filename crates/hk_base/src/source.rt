@@ -1,6 +1,6 @@
 // Where bytes come from.
-ghost use Rattle.std.specs.Prelude.{◌≡◌, ◌≤◌, ◌<◌, List, ℕ, Option, length, take};
-ghost use Rattle.hk_base.specs.Devices.{Rose, IfBytes, OnEnd, OnFailed, OnNoFailure, Took, IsNothing};
+ghost use Rattle.std.specs.Prelude.{◌≡◌, ◌≤◌, ◌<◌, List, ℕ, Option, length, take, drop};
+ghost use Rattle.hk_base.specs.Devices.{Rose, IfBytes, OnEnd, OnNothing, OnFailed, OnNoFailure, Took, IsNothing};
 
 use crate::Got;
 
@@ -12,18 +12,20 @@ pub trait Source {
     /// How often reading has failed.
     ghost faults: { Self → ℕ };
 
-    /// Puts the next bytes into the front of `into`. `End` says that nothing is left, and `Failed` takes nothing.
+    /// Puts the next bytes into the front of `into`, and leaves what lies behind them. `End` says that nothing is left;
+    /// it and `Failed` take nothing and leave `into` as it was.
     fn read(&mut self, into: &mut [u8]) -> Got
         requires { 0 < length into.old }
         ensures some { IfBytes result (λ n. 1 ≤ n) }
         ensures room { IfBytes result (λ n. n ≤ length into.old) }
         ensures next { IfBytes result (λ n. Took (take n into.new) (left self.old) (left self.new)) }
 
-        ensures end { OnEnd result (IsNothing (left self.old)) }
-        ensures end_stays { OnEnd result (left self.new ≡ left self.old) }
+        ensures rest_stays { IfBytes result (λ n. drop n into.new ≡ drop n into.old) }
 
-        ensures failed_stays { OnFailed result (left self.new ≡ left self.old) }
+        ensures end { OnEnd result (IsNothing (left self.old)) }
+        ensures nothing_taken { OnNothing result (left self.new ≡ left self.old) }
+        ensures nothing_put { OnNothing result (into.new ≡ into.old) }
+
         ensures cause { OnFailed result (Rose (faults self.old) (faults self.new)) }
-        ensures never_falls { faults self.old ≤ faults self.new }
         ensures counts_failures { OnNoFailure result (faults self.new ≡ faults self.old) };
 }

@@ -1,1 +1,2 @@
 pub mod GrowingBlocks
+pub mod Looking

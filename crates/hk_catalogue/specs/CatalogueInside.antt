@@ -24,6 +24,12 @@ pub record IsFree (store : Store) (slot : ℕ) : Type 0 where
 abbrev pub IsFilled : Store → List (ℕ × ℕ) → Type 0
 IsFilled store index = (slot : ℕ) (track : Track) → song_at store slot ≡ Some track → Contains index (track.id, slot)
 
+-- Ids rise, each has its song in a slot of its own, and no other slot has a song.
+pub record IsShelved (shelves : Shelves) : Type 0 where
+  pub rising : AreRising shelves.index
+  pub held : All (IsHeld shelves.store) shelves.index
+  pub filled : IsFilled shelves.store shelves.index
+
 -- no number stands twice
 abbrev pub AreDistinct : List ℕ → Type 0
 AreDistinct xs = (i j : ℕ) → i ≢ j → i < length xs → j < length xs → slice_index_or xs i 0 ≢ slice_index_or xs j 0

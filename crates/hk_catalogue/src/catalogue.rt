@@ -10,6 +10,7 @@ ghost use Rattle.hk_table.specs.Index.{ArePlaces, index_of};
 ghost use Rattle.hk_table.specs.Store.{song_at, spare};
 ghost use Rattle.hk_catalogue.specs.Register.{songs_after};
 ghost use Rattle.hk_catalogue.specs.Shelves.{new_shelves, songs_of, song_of, entry_of, HasLimits, version_after, HasIn, IsCounting};
+ghost use Rattle.hk_catalogue.specs.CatalogueInside.{IsShelved};
 
 use crate::Edit;
 use crate::entry::{self, Entry};
@@ -149,6 +150,7 @@ impl Catalogue {
     pub fn count(&self) -> u32
         ensures count { result ≡ length (songs_of self.now) }
         ensures words_fit { positions_of (songs_of self.now) ≤ self.now.store.positions }
+        ensures shelved { IsShelved self.now }
     {
         self.index.len() as u32
     }

@@ -16,7 +16,7 @@ use Rattle.hk_spec_matching.specs.Matching.{Query, is_hit, match_at, matches, ma
 use Rattle.hk_spec_matching.specs.Occurrences.{Occurrence, occurrences, occurrences_in, occurrences_of}
 use Rattle.hk_spec_matching.specs.Cost.{subsets, looked_up}
 use Rattle.hk_probe.specs.Comparison.{first_hit, first_match_at}
-use Rattle.hk_probe.specs.Search.{fits, found, found_of, found_by, found_in}
+use Rattle.hk_probe.specs.Search.{fits, found, found_of, found_by, found_in, HaveSame}
 use Rattle.hk_probe.proofs.Sums.{of_option, sum_by-same, sum_by-of_map, sum_by-of_flat_map, sum_by-of_filter, sum_by-of_filter_map, sum_by-exchanged, sum_by-shifted, sum_by-joined, sum_by-nowhere, sum_by-at_one}
 use Rattle.hk_probe.proofs.Starts.{all_starts}
 use Rattle.hk_probe.proofs.Matches.{equal, unequal, match-no_hit, none_hits, first_match-is, first_match-none}
@@ -53,26 +53,26 @@ looked_up_once print w x =
 
 -- what an occurrence adds to a sum for a print, where it is looked up
 abbrev added : (Match → ℕ) → Query → ℕ × Print → Occurrence → ℕ
-added f query print o = cond (is_hit (print.1, o.word)) (of_option f (found query print.0 o)) 0
+added f query print o = cond (is_hit (print.1, o.word)) (of_option f (found query print.0 o.song o.position)) 0
 
-of_word : (f : Match → ℕ) (query : Query) (songs : Songs) (j w : ℕ)
-    → sum_by f (found_of query songs j w) ≡ sum_by (λ o. cond (o.word == w) (of_option f (found query j o)) 0) (occurrences songs)
+pub of_word : (f : Match → ℕ) (query : Query) (songs : Songs) (j w : ℕ)
+    → sum_by f (found_of query songs j w) ≡ sum_by (λ o. cond (o.word == w) (of_option f (found query j o.song o.position)) 0) (occurrences songs)
 unfolding found_of
 of_word f query songs j w =
-    sum_by-of_filter_map f (found query j) (occurrences_of w songs)
-    ∙ sum_by-of_filter (λ o. of_option f (found query j o)) (λ o. o.word == w) (occurrences songs)
+    sum_by-of_filter_map f (λ o. found query j o.song o.position) (occurrences_of w songs)
+    ∙ sum_by-of_filter (λ o. of_option f (found query j o.song o.position)) (λ o. o.word == w) (occurrences songs)
 
-of_print : (f : Match → ℕ) (query : Query) (songs : Songs) (print : ℕ × Print)
+pub of_print : (f : Match → ℕ) (query : Query) (songs : Songs) (print : ℕ × Print)
     → sum_by f (found_by query songs print) ≡ sum_by (added f query print) (occurrences songs)
 unfolding found_by
 of_print f query songs print =
     let word : ℕ → ℕ = bit_xor print.1.word in
-    let term : ℕ → Occurrence → ℕ = λ s o. cond (o.word == word s) (of_option f (found query print.0 o)) 0 in
+    let term : ℕ → Occurrence → ℕ = λ s o. cond (o.word == word s) (of_option f (found query print.0 o.song o.position)) 0 in
     sum_by-of_flat_map f (found_of query songs print.0) (looked_up print.1)
     ∙ sum_by-of_map (λ w. sum_by f (found_of query songs print.0 w)) word (subsets print.1.mask)
     ∙ sum_by-same (λ s. sum_by f (found_of query songs print.0 (word s))) (λ s. sum_by (term s) (occurrences songs)) (λ s. of_word f query songs print.0 (word s)) (subsets print.1.mask)
     ∙ sum_by-exchanged term (subsets print.1.mask) (occurrences songs)
-    ∙ sum_by-same (λ o. sum_by (λ s. term s o) (subsets print.1.mask)) (added f query print) (λ o. looked_up_once print.1 o.word (of_option f (found query print.0 o))) (occurrences songs)
+    ∙ sum_by-same (λ o. sum_by (λ s. term s o) (subsets print.1.mask)) (added f query print) (λ o. looked_up_once print.1 o.word (of_option f (found query print.0 o.song o.position))) (occurrences songs)
 
 -- ---- the positions of a song for one print
 
@@ -82,22 +82,22 @@ true_le a b is = elim (leb_tells a b) [ inl low ↦ low.0 | inr high ↦ absurd 
 false_le : (a b : ℕ) → b < a → nat_le a b ≡ false
 false_le a b is = elim (leb_tells a b) [ inl low ↦ absurd (omega (arith, is, low.1)) | inr high ↦ high.0 ]
 
-found-outside : (query : Query) (j : ℕ) (o : Occurrence) → fits query j o ≡ false → found query j o ≡ None
+pub found-outside : (query : Query) (j : ℕ) (song : ℕ × Song) (p : ℕ) → fits query j song p ≡ false → found query j song p ≡ None
 unfolding found
-found-outside query j o outside =
-    let q = o.position - j in
-    ap (λ b. cond b (first_match_at query j o.song (q, window (length query.prints) 1 o.song.1.words q)) None) outside
+found-outside query j song p outside =
+    let q = p - j in
+    ap (λ b. cond b (first_match_at query j song (q, window (length query.prints) 1 song.1.words q)) None) outside
 
-found-inside : (query : Query) (j : ℕ) (o : Occurrence) (q : ℕ) → o.position ≡ j + q → q + length query.prints ≤ length o.song.1.words
-    → found query j o ≡ first_match_at query j o.song (q, window (length query.prints) 1 o.song.1.words q)
+pub found-inside : (query : Query) (j : ℕ) (song : ℕ × Song) (p q : ℕ) → p ≡ j + q → q + length query.prints ≤ length song.1.words
+    → found query j song p ≡ first_match_at query j song (q, window (length query.prints) 1 song.1.words q)
 unfolding found
-found-inside query j o q is within =
-    let start : o.position - j ≡ q = omega arith in
-    let inside : fits query j o ≡ true =
-    ap (λ b. b && nat_le (o.position - j + length query.prints) (length o.song.1.words)) (true_le j o.position (omega arith))
-    ∙ true_le (o.position - j + length query.prints) (length o.song.1.words) (omega arith) in
-    ap (λ b. cond b (first_match_at query j o.song (o.position - j, window (length query.prints) 1 o.song.1.words (o.position - j))) None) inside
-    ∙ ap (λ s. first_match_at query j o.song (s, window (length query.prints) 1 o.song.1.words s)) start
+found-inside query j song p q is within =
+    let start : p - j ≡ q = omega arith in
+    let inside : fits query j song p ≡ true =
+    ap (λ b. b && nat_le (p - j + length query.prints) (length song.1.words)) (true_le j p (omega arith))
+    ∙ true_le (p - j + length query.prints) (length song.1.words) (omega arith) in
+    ap (λ b. cond b (first_match_at query j song (p - j, window (length query.prints) 1 song.1.words (p - j))) None) inside
+    ∙ ap (λ s. first_match_at query j song (s, window (length query.prints) 1 song.1.words s)) start
 
 -- the print that hits first hits
 first_hits : (prints : List Print) (words : List ℕ) (q j : ℕ) (d : Print) → j < length prints → q + length prints ≤ length words
@@ -149,12 +149,11 @@ no_both : (b : Bool) → (b && false) ≡ false
 no_both true = refl
 no_both false = refl
 
-fits-early : (query : Query) (j : ℕ) (o : Occurrence) → o.position < j → fits query j o ≡ false
-fits-early query j o early = ap (λ b. b && nat_le (o.position - j + length query.prints) (length o.song.1.words)) (false_le j o.position early)
+pub fits-early : (query : Query) (j : ℕ) (song : ℕ × Song) (p : ℕ) → p < j → fits query j song p ≡ false
+fits-early query j song p early = ap (λ b. b && nat_le (p - j + length query.prints) (length song.1.words)) (false_le j p early)
 
-fits-late : (query : Query) (j : ℕ) (o : Occurrence) → length o.song.1.words < o.position - j + length query.prints → fits query j o ≡ false
-fits-late query j o late =
-    ap (λ b. nat_le j o.position && b) (false_le (o.position - j + length query.prints) (length o.song.1.words) late) ∙ no_both (nat_le j o.position)
+pub fits-late : (query : Query) (j : ℕ) (song : ℕ × Song) (p : ℕ) → length song.1.words < p - j + length query.prints → fits query j song p ≡ false
+fits-late query j song p late = ap (λ b. nat_le j p && b) (false_le (p - j + length query.prints) (length song.1.words) late) ∙ no_both (nat_le j p)
 
 count_none : (size n : ℕ) → n < size → window_count size 1 n ≡ 0
 count_none size n short = ap (λ b. cond b 0 ((n - size) / 1 + 1)) (true_le (suc n) size (omega arith))
@@ -183,12 +182,12 @@ for_print f query song j d low =
     ∙ sum_by-enumerated (λ (e : ℕ × ℕ). added f query (j, print) (record { song = song; position = e.0; word = e.1 })) 0 words 0
     ∙ sum_by-same (λ i. added f query (j, print) (record { song = song; position = 0 + i; word = get_or words i 0 })) term
     (λ i. ap (λ n. added f query (j, print) (record { song = song; position = n; word = get_or words i 0 })) (zero-add i)) (range_with_len 0 (length words)) in
-    let outside : (p : ℕ) → fits query j (at p) ≡ false → term p ≡ 0 = λ p no.
-    ap (λ o. cond (is_hit (print, get_or words p 0)) (of_option f o) 0) (found-outside query j (at p) no) ∙ either (is_hit (print, get_or words p 0)) 0 in
+    let outside : (p : ℕ) → fits query j song p ≡ false → term p ≡ 0 = λ p no.
+    ap (λ o. cond (is_hit (print, get_or words p 0)) (of_option f o) 0) (found-outside query j song p no) ∙ either (is_hit (print, get_or words p 0)) 0 in
     let inside : (q : ℕ) → q + size ≤ length words → term (j + q) ≡ start q = λ q within.
     let here : List ℕ = window size 1 words q in
     let word = get_or words (j + q) 0 in
-    ap (λ o. cond (is_hit (print, word)) (of_option f o) 0) (found-inside query j (at (j + q)) q refl within)
+    ap (λ o. cond (is_hit (print, word)) (of_option f o) 0) (found-inside query j song (j + q) q refl within)
     ∙ elim (cases_eq (first_hit query.prints here) j) as (λ _. cond (is_hit (print, word)) (of_option f (first_match_at query j song (q, here))) 0 ≡ start q) [
       | inl first ↦
           ap (λ o. cond (is_hit (print, word)) (of_option f o) 0) (first_match-is query j song (q, here) first)
@@ -204,8 +203,8 @@ for_print f query song j d low =
           let count = length words - size + 1 in
           let rest = size - 1 - j in
           let all : length words ≡ j + (count + rest) = omega (arith, long.1) in
-          let early = sum_by-nowhere term 0 j (λ p above below. outside p (fits-early query j (at p) (omega arith))) in
-          let late = sum_by-nowhere term (0 + j + count) rest (λ p above below. outside p (fits-late query j (at p) (omega (arith, long.1, above)))) in
+          let early = sum_by-nowhere term 0 j (λ p above below. outside p (fits-early query j song p (omega arith))) in
+          let late = sum_by-nowhere term (0 + j + count) rest (λ p above below. outside p (fits-late query j song p (omega (arith, long.1, above)))) in
           let middle : sum_by term (range_with_len (0 + j) count) ≡ sum_by start (range_with_len 0 count) =
           sum_by-shifted term start (0 + j) 0 count (λ i less.
           let place : 0 + j + i ≡ j + i = omega arith in
@@ -217,7 +216,7 @@ for_print f query song j d low =
           ∙ (let sum : sum_by term (range_with_len 0 (j + (count + rest))) ≡ sum_by start (range_with_len 0 count) = omega (arith, early, late, middle, parts, later) in sum)
           ∙ sym (ap (λ n. sum_by start (range_with_len 0 n)) (count_some size (length words) long.1))
       | inr short ↦
-          sum_by-nowhere term 0 (length words) (λ p above below. outside p (fits-late query j (at p) (omega (arith, short.1))))
+          sum_by-nowhere term 0 (length words) (λ p above below. outside p (fits-late query j song p (omega (arith, short.1))))
           ∙ sym (ap (λ n. sum_by start (range_with_len 0 n)) (count_none size (length words) short.1))
     ]
 
@@ -262,9 +261,9 @@ all_prints f query song =
     ∙ sym (of_song f query song)
 
 -- what a look finds is what there is, whatever is counted
-pub found_all : (f : Match → ℕ) (query : Query) (songs : Songs) → sum_by f (found_in query songs) ≡ sum_by f (matches query songs)
+pub found_all : (query : Query) (songs : Songs) → HaveSame (found_in query songs) (matches query songs)
 unfolding found_in matches
-found_all f query songs =
+found_all query songs = λ f.
     let prints = enumerate_from 0 query.prints in
     let term : ℕ × Print → ℕ × Song → ℕ = λ e song. sum_by (added f query e) (occurrences_in song) in
     sum_by-of_flat_map f (found_by query songs) prints

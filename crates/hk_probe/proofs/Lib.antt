@@ -6,4 +6,5 @@ pub mod Finds
 pub mod Order
 pub mod Once
 pub mod Places
+pub mod Visits
 pub mod Changes

@@ -15,6 +15,7 @@ use Rattle.hk_spec_matching.specs.Catalogue.{Song, Songs, positions_of}
 use Rattle.hk_spec_matching.specs.Matching.{Query, match_at, errors_of, is_hit, matches, matches_of_song}
 use Rattle.hk_block.specs.Room.{comes_before, IsInOrder}
 use Rattle.hk_catalogue.specs.Entries.{AreAbove, AreRising}
+use Rattle.hk_probe.specs.Search.{HaveSame}
 use Rattle.hk_probe.proofs.Starts.{all_starts}
 
 -- ---- the order of matches
@@ -128,13 +129,13 @@ is_not_before true n is none = absurd (omega (arith, is, none))
 is_not_before false n is none = refl
 
 -- the first of a list in order comes before none of a list that has the same
-first_is_least : (x y : Match) (xs ys : List Match) → ((f : Match → ℕ) → sum_by f (x ∷ xs) ≡ sum_by f (y ∷ ys)) → InOrder (x ∷ xs) → comes_before y x ≡ false
+first_is_least : (x y : Match) (xs ys : List Match) → HaveSame (x ∷ xs) (y ∷ ys) → InOrder (x ∷ xs) → comes_before y x ≡ false
 first_is_least x y xs ys same first =
     let itself : before x x ≡ 0 = ap (λ b. cond b 1 0) (not_itself x) in
     is_not_before (comes_before y x) (before x y) refl (omega (arith, same (before x), sum_by-cons (before x) x xs, sum_by-cons (before x) y ys, itself, none_before x xs first.0))
 
 -- two lists in order that have the same matches are the same list
-pub same_in_order : (xs ys : List Match) → ((f : Match → ℕ) → sum_by f xs ≡ sum_by f ys) → InOrder xs → InOrder ys → xs ≡ ys
+pub same_in_order : (xs ys : List Match) → HaveSame xs ys → InOrder xs → InOrder ys → xs ≡ ys
 same_in_order [] [] same first second = refl
 same_in_order [] (y ∷ ys) same first second =
     let one : Match → ℕ = λ m. 1 in

@@ -1,5 +1,5 @@
 -- The places of a word in the table are where it occurs in the songs.
-use Rattle.std.proofs.Common.{◌≡◌, ◌≢◌, ℕ, zero, suc, ◌+◌, ◌<◌, ◌≤◌, ◌==◌, List, [], ◌∷◌, ◌++◌, length, map, filter, flat_map, get_or, sum_by, Option, Some, None, option_map, Bool, true, false, cond, refl, sym, ◌∙◌, ap, subst, arith, zero-add, inl, inr}
+use Rattle.std.proofs.Common.{◌≡◌, ◌≢◌, ℕ, zero, suc, ◌+◌, ◌<◌, ◌≤◌, ◌==◌, List, [], ◌∷◌, map, filter, flat_map, sum_by, Option, Some, None, option_map, Bool, true, false, cond, refl, sym, ◌∙◌, ap, subst, arith, zero-add, inl, inr}
 use Rattle.std.specs.List.{All, Contains, enumerate_from, slice_get}
 use Rattle.std.specs.Option.{option_map_or}
 use Rattle.std.proofs.lemmas.Bool.{cases_eq}
@@ -7,7 +7,7 @@ use Rattle.std.proofs.lemmas.Option.{same_Some, none-some}
 use Rattle.std.proofs.lemmas.List.Sums.{sum_by-append}
 use Rattle.std.proofs.lemmas.List.Elements.{All-nil, All-cons, All-head, All-tail, All-append, All-weaker, Contains-append_left, Contains-append_right}
 use Rattle.std.proofs.Math.ListN as lists
-use Rattle.hk_spec_matching.specs.Catalogue.{Song, Songs}
+use Rattle.hk_spec_matching.specs.Catalogue.{Song}
 use Rattle.hk_spec_matching.specs.Occurrences.{Occurrence, occurrences, occurrences_in, occurrences_of}
 use Rattle.hk_table.specs.Store.{Store, Track, song_at}
 use Rattle.hk_table.specs.Index.{AreOnce, ArePlaces, StandsAt, index_of, slot_at, words_in}
@@ -15,9 +15,9 @@ use Rattle.hk_table.specs.declared.place.Place.{Place}
 use Rattle.hk_catalogue.specs.Entries.{AreAbove, AreRising}
 use Rattle.hk_catalogue.specs.Shelves.{song_of, entry_of, songs_in, words_at}
 use Rattle.hk_catalogue.specs.CatalogueInside.{IsHeld, IsFilled}
-use Rattle.hk_probe.specs.Search.{entry_at, occurrence_at}
+use Rattle.hk_probe.specs.Search.{entry_at}
 use Rattle.hk_probe.proofs.Matches.{equal, unequal}
-use Rattle.hk_probe.proofs.Sums.{sum_by-same, sum_by-of_map, sum_by-of_flat_map, sum_by-of_filter}
+use Rattle.hk_probe.proofs.Sums.{sum_by-same, sum_by-of_map, sum_by-of_filter}
 use Rattle.hk_probe.proofs.Once.{contains_first, contains_later, once-append, same_sums}
 
 -- ---- the places of a word in a slot
@@ -184,6 +184,10 @@ all_there store word index filled p stands =
 
 -- ---- the same in the songs
 
+-- the word that stands at a place of the table
+abbrev pub occurrence_at : Store → ℕ → Place → Occurrence
+occurrence_at store word place = record { song = entry_at store place.slot; position = place.pos; word = word }
+
 -- what a sum has at an entry of an index, and what it has at the entry's song
 entry_is : (store : Store) (e : ℕ × ℕ) → IsHeld store e → entry_at store e.1 ≡ (e.0, song_of (words_at store e.1))
 entry_is store e held =
@@ -208,7 +212,7 @@ at_entry g store word e held =
       | inr other ↦ ap (λ b. cond b (here x.0 x.1) 0) (unequal x.1 word other) ∙ sym (ap (λ b. cond b (g (occurrence_at store word (place e.1 x.0))) 0) (unequal x.1 word other))
     ]) words
     ∙ sym (sum_by-of_map (λ p. g (occurrence_at store word p)) (λ (x : ℕ × ℕ). place e.1 x.0) (filter (λ x. x.1 == word) words)
-        ∙ sum_by-of_filter (λ (x : ℕ × ℕ). g (occurrence_at store word (place e.1 x.0))) (λ x. x.1 == word) words)
+    ∙ sum_by-of_filter (λ (x : ℕ × ℕ). g (occurrence_at store word (place e.1 x.0))) (λ x. x.1 == word) words)
 
 each_entry : (g : Occurrence → ℕ) (store : Store) (word : ℕ) (index : List (ℕ × ℕ)) → All (IsHeld store) index
     → sum_by (λ o. cond (o.word == word) (g o) 0) (occurrences (songs_in store index)) ≡ sum_by (λ p. g (occurrence_at store word p)) (places_in store word index)

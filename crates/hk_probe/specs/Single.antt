@@ -1,7 +1,7 @@
 -- A catalogue for one thread, as contracts see it.
-use Rattle.std.specs.Prelude.{ℕ, ◌+◌, ◌==◌, nat_le, if◌then◌else◌, List, [], Some, None, Result, Ok, Err}
+use Rattle.std.specs.Prelude.{ℕ, ◌+◌, ◌==◌, nat_le, if◌then◌else◌, true, List, [], Some, None, Result, Ok, Err}
 use Rattle.hk_spec_matching.specs.Catalogue.{Songs, Edit, Limits, edited_by}
-use Rattle.hk_block.specs.Looker.{Past, ShelfView}
+use Rattle.hk_block.specs.Looker.{Past, ShelfView, LookerView}
 use Rattle.hk_catalogue.specs.declared.refused.Refused.{Refused}
 use Rattle.hk_catalogue.specs.declared.refused.Refused.TheVariants.{VersionsFull}
 
@@ -39,5 +39,18 @@ shelf_of alone = record {
   limits = alone.limits;
   base = (alone.version, alone.songs);
   journal = None;
+  home = None;
+}
+
+-- what it is as a looker: its version changes by a publish alone
+abbrev pub looker_of : Single → LookerView
+looker_of alone = record {
+  at = alone.version;
+  past = past_of alone;
+  songs = alone.songs;
+  room = alone.limits.positions;
+  shown = None;
+  shelf = Some (shelf_of alone);
+  still = true;
   home = None;
 }

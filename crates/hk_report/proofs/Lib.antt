@@ -1,5 +1,4 @@
 mod Fronts
-mod Writing
 mod Numbers
 mod Stopping
 mod Items

@@ -1,4 +1,3 @@
-pub mod Fronts
 pub mod Pieces
 pub mod Reports
 pub mod Reading

@@ -1,22 +1,12 @@
 -- The pieces that lines are written in.
-use Rattle.std.specs.Prelude.{◌≡◌, ℕ, ◌≤◌, List, ◌++◌, decimal, codes, Option, Result, OnOk, OnErr}
+use Rattle.std.specs.Prelude.{ℕ, List, ◌++◌, decimal, codes}
 use Rattle.std.specs.Borrow.{Bor}
 use Rattle.std.specs.List.{flat_map}
-use Rattle.hk_base.specs.Devices.{Wrote, Rose}
 use Rattle.hk_base.specs.declared.plain.Head.{Head}
 use Rattle.hk_base.specs.declared.plain.Match.{Match}
-use Rattle.hk_spec_lines.specs.Lines.{numbered, match_text, hexadecimal}
-use Rattle.hk_report.specs.Fronts.{WroteFront}
+use Rattle.hk_spec_lines.specs.Lines.{numbered, match_text}
 use Rattle.hk_report.specs.declared.pieces.Piece.{Piece}
-use Rattle.hk_report.specs.declared.pieces.Piece.TheVariants.{Text, Number, Numbered, NumberedTwice, Hexadecimal}
-
--- What the call of a writer of this text did: what was written and the count of faults, before and after it.
-pub record Writes {T E : Type 0} (text : List ℕ) (result : Result T E) (old : Option (List ℕ)) (before : ℕ) (new : Option (List ℕ)) (now : ℕ) : Type 0 where
-  pub whole : OnOk result (Wrote text old new)
-  pub torn : OnErr result (WroteFront text old new)
-  pub cause : OnErr result (Rose before now)
-  pub never_falls : before ≤ now
-  pub stays : OnOk result (now ≡ before)
+use Rattle.hk_report.specs.declared.pieces.Piece.TheVariants.{Text, Number, Numbered, NumberedTwice}
 
 -- texts one after another
 abbrev pub texts : List (Bor (List ℕ)) → List ℕ
@@ -27,7 +17,6 @@ piece_text (Text text) = text.now
 piece_text (Number n) = decimal n
 piece_text (Numbered word n) = numbered word.now n
 piece_text (NumberedTwice word m n) = numbered (numbered word.now m) n
-piece_text (Hexadecimal n) = hexadecimal n
 
 -- the pieces one after another
 abbrev pub pieces_text : List Piece → List ℕ

@@ -6,6 +6,7 @@
 //! No writer takes memory, skips a byte or tries a failed write again.
 #![tactic(auto)]
 
+mod gathered;
 mod hexadecimal;
 mod line;
 mod pieces;

@@ -1,15 +1,14 @@
 // Report lines.
-ghost use Rattle.std.specs.Prelude.{◌≡◌, ◌≤◌, ◌++◌, OnOk, OnErr};
-ghost use Rattle.hk_base.specs.Devices.{Wrote, Rose};
+ghost use Rattle.std.specs.Prelude.{◌≡◌, ◌++◌};
+ghost use Rattle.hk_base.specs.Writing.{Writes};
 ghost use Rattle.hk_spec_lines.specs.Lines.{line, list_text, match_text};
-ghost use Rattle.hk_report.specs.Fronts.{WroteFront};
-ghost use Rattle.hk_report.specs.Pieces.{Writes, head_text, further_items};
+ghost use Rattle.hk_report.specs.Pieces.{head_text, further_items};
 
 use crate::pieces::{Piece, write_pieces};
 use hk_base::{Failed, Head, Match, Sink};
 
 fn write_head<K: Sink>(sink: &mut K, head: &Head) -> Result<(), Failed>
-    ensures { Writes (head_text head.now) result (K.written sink.old) (K.faults sink.old) (K.written sink.new) (K.faults sink.new) }
+    ensures { Writes K.Sink (head_text head.now) result sink.old sink.new }
 {
     write_pieces(
         sink,
@@ -26,7 +25,7 @@ fn write_head<K: Sink>(sink: &mut K, head: &Head) -> Result<(), Failed>
 
 // Writes an item behind a separator.
 fn write_item<K: Sink>(sink: &mut K, separator: &[u8], item: &Match) -> Result<(), Failed>
-    ensures { Writes (separator.now ++ match_text item.now) result (K.written sink.old) (K.faults sink.old) (K.written sink.new) (K.faults sink.new) }
+    ensures { Writes K.Sink (separator.now ++ match_text item.now) result sink.old sink.new }
 {
     write_pieces(
         sink,
@@ -42,7 +41,7 @@ fn write_item<K: Sink>(sink: &mut K, separator: &[u8], item: &Match) -> Result<(
 }
 
 fn write_further<K: Sink>(sink: &mut K, items: &[Match]) -> Result<(), Failed>
-    ensures { Writes (further_items items.now) result (K.written sink.old) (K.faults sink.old) (K.written sink.new) (K.faults sink.new) }
+    ensures { Writes K.Sink (further_items items.now) result sink.old sink.new }
 {
     for item in items {
         match write_item(sink, b" ", item) {
@@ -54,7 +53,7 @@ fn write_further<K: Sink>(sink: &mut K, items: &[Match]) -> Result<(), Failed>
 }
 
 fn write_list<K: Sink>(sink: &mut K, items: &[Match]) -> Result<(), Failed>
-    ensures { Writes (list_text items.now) result (K.written sink.old) (K.faults sink.old) (K.written sink.new) (K.faults sink.new) }
+    ensures { Writes K.Sink (list_text items.now) result sink.old sink.new }
 {
     match items.split_first() {
         None => write_pieces(sink, &[Piece::Text(b"none")]),
@@ -69,7 +68,7 @@ fn write_list<K: Sink>(sink: &mut K, items: &[Match]) -> Result<(), Failed>
 }
 
 fn write_parts<K: Sink>(sink: &mut K, head: &Head, matches: &[Match]) -> Result<(), Failed>
-    ensures { Writes (line head.now matches.now) result (K.written sink.old) (K.faults sink.old) (K.written sink.new) (K.faults sink.new) }
+    ensures { Writes K.Sink (line head.now matches.now) result sink.old sink.new }
 {
     match write_head(sink, head) {
         Ok(()) => {}
@@ -85,11 +84,7 @@ fn write_parts<K: Sink>(sink: &mut K, head: &Head, matches: &[Match]) -> Result<
 /// Appends the report line of a look: its head, and the list of its matches in the order given. `Failed` leaves a
 /// proper front of the line, and the sink's count of faults higher.
 pub fn write_line<K: Sink>(sink: &mut K, head: &Head, matches: &[Match]) -> Result<(), Failed>
-    ensures whole { OnOk result (Wrote (line head.now matches.now) (K.written sink.old) (K.written sink.new)) }
-    ensures torn { OnErr result (WroteFront (line head.now matches.now) (K.written sink.old) (K.written sink.new)) }
-    ensures cause { OnErr result (Rose (K.faults sink.old) (K.faults sink.new)) }
-    ensures never_falls { K.faults sink.old ≤ K.faults sink.new }
-    ensures counts_failures { OnOk result (K.faults sink.new ≡ K.faults sink.old) }
+    ensures { Writes K.Sink (line head.now matches.now) result sink.old sink.new }
 {
     write_parts(sink, head, matches)
 }

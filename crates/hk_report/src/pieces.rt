@@ -1,7 +1,7 @@
 // Lines are written in pieces: texts and numbers.
-ghost use Rattle.hk_report.specs.Pieces.{Writes, piece_text, pieces_text, texts};
+ghost use Rattle.hk_base.specs.Writing.{Writes};
+ghost use Rattle.hk_report.specs.Pieces.{piece_text, pieces_text, texts};
 
-use crate::hexadecimal::digits;
 use hk_base::{Failed, Sink};
 use itoa::Buffer;
 
@@ -12,12 +12,11 @@ pub enum Piece<'a> {
     Number(u64),
     Numbered(&'a [u8], u64),
     NumberedTwice(&'a [u8], u64, u64),
-    Hexadecimal(u32),
 }
 
 // Writes the text, by as many writes as the sink needs.
-fn write_text<K: Sink>(sink: &mut K, text: &[u8]) -> Result<(), Failed>
-    ensures { Writes text.now result (K.written sink.old) (K.faults sink.old) (K.written sink.new) (K.faults sink.new) }
+pub fn write_text<K: Sink>(sink: &mut K, text: &[u8]) -> Result<(), Failed>
+    ensures { Writes K.Sink text.now result sink.old sink.new }
 {
     let mut done = 0;
     while done < text.len() {
@@ -30,7 +29,7 @@ fn write_text<K: Sink>(sink: &mut K, text: &[u8]) -> Result<(), Failed>
 }
 
 fn write_texts<K: Sink>(sink: &mut K, parts: &[&[u8]]) -> Result<(), Failed>
-    ensures { Writes (texts parts.now) result (K.written sink.old) (K.faults sink.old) (K.written sink.new) (K.faults sink.new) }
+    ensures { Writes K.Sink (texts parts.now) result sink.old sink.new }
 {
     for part in parts {
         match write_text(sink, part) {
@@ -42,7 +41,7 @@ fn write_texts<K: Sink>(sink: &mut K, parts: &[&[u8]]) -> Result<(), Failed>
 }
 
 fn write_piece<K: Sink>(sink: &mut K, piece: &Piece<'_>) -> Result<(), Failed>
-    ensures { Writes (piece_text piece.now) result (K.written sink.old) (K.faults sink.old) (K.written sink.new) (K.faults sink.new) }
+    ensures { Writes K.Sink (piece_text piece.now) result sink.old sink.new }
 {
     let (mut first, mut second) = (Buffer::new(), Buffer::new());
     match piece {
@@ -51,7 +50,6 @@ fn write_piece<K: Sink>(sink: &mut K, piece: &Piece<'_>) -> Result<(), Failed>
         Piece::Numbered(word, n) => {
             write_texts(sink, &[*word, b" ", first.format(*n).as_bytes()])
         }
-        Piece::Hexadecimal(n) => write_text(sink, &digits(*n)),
         Piece::NumberedTwice(word, m, n) => write_texts(
             sink,
             &[
@@ -67,7 +65,7 @@ fn write_piece<K: Sink>(sink: &mut K, piece: &Piece<'_>) -> Result<(), Failed>
 
 // Writes the pieces, one after another.
 pub fn write_pieces<K: Sink>(sink: &mut K, pieces: &[Piece<'_>]) -> Result<(), Failed>
-    ensures { Writes (pieces_text pieces.now) result (K.written sink.old) (K.faults sink.old) (K.written sink.new) (K.faults sink.new) }
+    ensures { Writes K.Sink (pieces_text pieces.now) result sink.old sink.new }
 {
     for piece in pieces {
         match write_piece(sink, piece) {

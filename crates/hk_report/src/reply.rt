@@ -1,8 +1,7 @@
 // Reply lines.
-ghost use Rattle.std.specs.Prelude.{◌≡◌, ◌≤◌, ◌++◌, OnOk, OnErr};
-ghost use Rattle.hk_base.specs.Devices.{Wrote, Rose};
+ghost use Rattle.std.specs.Prelude.{◌≡◌, ◌++◌};
+ghost use Rattle.hk_base.specs.Writing.{Writes};
 ghost use Rattle.hk_spec_lines.specs.Lines.{reply_line, reason_text, what_text};
-ghost use Rattle.hk_report.specs.Fronts.{WroteFront};
 ghost use Rattle.hk_report.specs.Pieces.{piece_text};
 
 use crate::pieces::{Piece, write_pieces};
@@ -42,11 +41,7 @@ fn what_pieces(what: &What) -> (Piece<'static>, Piece<'static>)
 /// the sink's count of faults higher.
 #[tactic(auto, unfolding(hk_spec_lines::specs::Lines::reply_line))]
 pub fn write_reply<K: Sink>(sink: &mut K, reply: &Reply) -> Result<(), Failed>
-    ensures whole { OnOk result (Wrote (reply_line reply.now.number reply.now.what) (K.written sink.old) (K.written sink.new)) }
-    ensures torn { OnErr result (WroteFront (reply_line reply.now.number reply.now.what) (K.written sink.old) (K.written sink.new)) }
-    ensures cause { OnErr result (Rose (K.faults sink.old) (K.faults sink.new)) }
-    ensures never_falls { K.faults sink.old ≤ K.faults sink.new }
-    ensures counts_failures { OnOk result (K.faults sink.new ≡ K.faults sink.old) }
+    ensures { Writes K.Sink (reply_line reply.now.number reply.now.what) result sink.old sink.new }
 {
     let (answer, reason) = what_pieces(&reply.what);
     write_pieces(

@@ -1,8 +1,7 @@
 // The lines of a run's end.
-ghost use Rattle.std.specs.Prelude.{◌≡◌, ◌≤◌, OnOk, OnErr};
-ghost use Rattle.hk_base.specs.Devices.{Wrote, Rose};
+ghost use Rattle.std.specs.Prelude.{◌≡◌};
+ghost use Rattle.hk_base.specs.Writing.{Writes};
 ghost use Rattle.hk_spec_lines.specs.Lines.{station_line, operator_line, mismatch_line, trouble_line, fault_text, end_text, operator_end_text, trouble_text};
-ghost use Rattle.hk_report.specs.Fronts.{WroteFront};
 ghost use Rattle.hk_report.specs.Pieces.{piece_text};
 
 use crate::pieces::{Piece, write_pieces};
@@ -68,11 +67,7 @@ pub fn write_station<K: Sink>(
     version: u32,
     end: &End,
 ) -> Result<(), Failed>
-    ensures whole { OnOk result (Wrote (station_line station blocks version end.now) (K.written sink.old) (K.written sink.new)) }
-    ensures torn { OnErr result (WroteFront (station_line station blocks version end.now) (K.written sink.old) (K.written sink.new)) }
-    ensures cause { OnErr result (Rose (K.faults sink.old) (K.faults sink.new)) }
-    ensures never_falls { K.faults sink.old ≤ K.faults sink.new }
-    ensures counts_failures { OnOk result (K.faults sink.new ≡ K.faults sink.old) }
+    ensures { Writes K.Sink (station_line station blocks version end.now) result sink.old sink.new }
 {
     write_pieces(
         sink,
@@ -96,11 +91,7 @@ pub fn write_operator<K: Sink>(
     version: u32,
     end: &OpEnd,
 ) -> Result<(), Failed>
-    ensures whole { OnOk result (Wrote (operator_line commands version end.now) (K.written sink.old) (K.written sink.new)) }
-    ensures torn { OnErr result (WroteFront (operator_line commands version end.now) (K.written sink.old) (K.written sink.new)) }
-    ensures cause { OnErr result (Rose (K.faults sink.old) (K.faults sink.new)) }
-    ensures never_falls { K.faults sink.old ≤ K.faults sink.new }
-    ensures counts_failures { OnOk result (K.faults sink.new ≡ K.faults sink.old) }
+    ensures { Writes K.Sink (operator_line commands version end.now) result sink.old sink.new }
 {
     write_pieces(
         sink,
@@ -122,11 +113,7 @@ pub fn write_mismatch<K: Sink>(
     seen: u32,
     desk: u32,
 ) -> Result<(), Failed>
-    ensures whole { OnOk result (Wrote (mismatch_line station seen desk) (K.written sink.old) (K.written sink.new)) }
-    ensures torn { OnErr result (WroteFront (mismatch_line station seen desk) (K.written sink.old) (K.written sink.new)) }
-    ensures cause { OnErr result (Rose (K.faults sink.old) (K.faults sink.new)) }
-    ensures never_falls { K.faults sink.old ≤ K.faults sink.new }
-    ensures counts_failures { OnOk result (K.faults sink.new ≡ K.faults sink.old) }
+    ensures { Writes K.Sink (mismatch_line station seen desk) result sink.old sink.new }
 {
     write_pieces(
         sink,
@@ -143,11 +130,7 @@ pub fn write_mismatch<K: Sink>(
 /// count of faults higher.
 #[tactic(auto, unfolding(hk_spec_lines::specs::Lines::trouble_line))]
 pub fn write_trouble<K: Sink>(sink: &mut K, trouble: &Trouble) -> Result<(), Failed>
-    ensures whole { OnOk result (Wrote (trouble_line trouble.now) (K.written sink.old) (K.written sink.new)) }
-    ensures torn { OnErr result (WroteFront (trouble_line trouble.now) (K.written sink.old) (K.written sink.new)) }
-    ensures cause { OnErr result (Rose (K.faults sink.old) (K.faults sink.new)) }
-    ensures never_falls { K.faults sink.old ≤ K.faults sink.new }
-    ensures counts_failures { OnOk result (K.faults sink.new ≡ K.faults sink.old) }
+    ensures { Writes K.Sink (trouble_line trouble.now) result sink.old sink.new }
 {
     write_pieces(
         sink,

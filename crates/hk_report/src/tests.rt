@@ -64,6 +64,25 @@ fn a_full_sink(rt: HostRuntime) -> Result<(), Fail> {
 }
 
 #[test]
+fn a_print_is_one_write(rt: HostRuntime) -> Result<(), Fail> {
+    let alloc = rt.alloc();
+    let mut failing = Vec::new(alloc);
+    failing.push(1)?;
+    let mut sink = MemorySink::new(alloc, 100, failing)?;
+    let print = Print {
+        word: 0xdead0042,
+        mask: 0x80000001,
+    };
+    write_print(&mut sink, u64::MAX, &print)?;
+    assert_eq!(rt; write_print(&mut sink, 0, &print), Err(Failed));
+    assert_eq!(rt;
+        sink.written(),
+        b"18446744073709551615 dead0042 80000001\n".as_slice()
+    );
+    Ok(())
+}
+
+#[test]
 fn a_report_line(rt: HostRuntime) -> Result<(), Fail> {
     let text = b"S 63 B 12 G 0 W 64 V 1: 8@1~0 7@0~2867 8@1~0\n";
     let (head, items) = read_line(rt.alloc(), text)?;

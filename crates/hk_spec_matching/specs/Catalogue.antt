@@ -1,5 +1,5 @@
 -- The catalogue's songs by id, and its versions.
-use Rattle.std.specs.Prelude.{ℕ, ◌+◌, ◌==◌, nat_le, nat_lt, Bool, ◌&&◌, not, if◌then◌else◌, List, [], length, take, fold, filter, sum_by}
+use Rattle.std.specs.Prelude.{ℕ, ◌≤◌, ◌+◌, ◌==◌, nat_le, nat_lt, Bool, ◌&&◌, not, if◌then◌else◌, List, [], ◌∷◌, length, take, fold, filter, sum_by}
 use Rattle.std.specs.Ordering.{nat_cmp}
 use Rattle.std.specs.List.{list_any}
 use Rattle.std.specs.FinMap.{put}
@@ -58,3 +58,8 @@ Journal = List (List Edit)
 -- what the first so many batches leave, from no song on
 unfoldable pub version : Limits → Journal → ℕ → Songs
 version limits journal v = fold (edited_by limits) [] (take v journal)
+
+-- Versions that never fall, from one to another.
+abbrev pub Rise : ℕ → List ℕ → ℕ → Type 0
+Rise from [] to = from ≤ to
+Rise from (v ∷ rest) to = (from ≤ v) × Rise v rest to

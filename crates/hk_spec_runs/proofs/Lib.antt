@@ -1,3 +1,5 @@
 mod SceneEnds
 mod LastLines
 pub mod EndsTold
+pub mod Listening
+pub mod Logs

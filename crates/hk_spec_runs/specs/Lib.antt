@@ -1,5 +1,6 @@
 pub mod Desk
 pub mod Replay
+pub mod Listening
 pub mod History
 pub mod Make
 pub mod Words

@@ -44,6 +44,10 @@ report_in station v songs numbered =
     let block = numbered.1 in
     Report (record { station = station; block = numbered.0; segment = block.segment; first = block.first; version = v }) (matches (query_of block) songs)
 
+-- the report lines of a station's numbered blocks, each at its version, over the songs of each version
+abbrev pub lines_at : ℕ → (ℕ → Songs) → List (ℕ × Block) → List ℕ → List ℕ
+lines_at station songs numbered vs = flat_map (λ p. printed_text (report_in station p.1 (songs p.1) p.0)) (zip numbered vs)
+
 module _ (rules : Rules) where
   -- the report of a station's block with its number, at a version of a journal
   unfoldable pub report : ℕ → Journal → ℕ → ℕ × Block → Printed
@@ -51,7 +55,7 @@ module _ (rules : Rules) where
 
   -- a station's log: a line for each number in vs, in the order of the blocks
   unfoldable pub log : ℕ → List Block → List ℕ → Journal → List ℕ
-  log station blocks vs journal = flat_map (λ p. printed_text (report station journal p.1 p.0)) (zip (enumerate_from 0 blocks) vs)
+  log station blocks vs journal = lines_at station (version rules.limits journal) (enumerate_from 0 blocks) vs
 
   -- A station's next byte, with the catalogue at version v: it meets a fault, or it may complete blocks, or a fence, which
   -- is ahead where it asks for more than v.

@@ -1,67 +1,22 @@
--- Facts of what came of a byte, from facts of it.
-use Rattle.std.proofs.Common.{◌≡◌, List, ℕ, [], refl, ap, sym, ◌∙◌, Option, Some, None}
-use Rattle.std.proofs.lemmas.List.{append-nil}
-use Rattle.hk_base.specs.Devices.{Wrote}
+-- Facts of what came of a byte.
+use Rattle.std.proofs.Common.{◌≡◌, refl, ap, sym, ◌∙◌, Option, None, Some, Result, Ok, Err}
+use Rattle.std.specs.Prelude.{OnOk, OnErr}
 use Rattle.hk_base.specs.declared.plain.End.{End}
-use Rattle.hk_base.specs.declared.plain.End.TheVariants as ends
 use Rattle.hk_station.specs.declared.station.Progress.{Progress}
 use Rattle.hk_station.specs.declared.station.Progress.TheVariants.{Going, Over}
-use Rattle.hk_station.specs.Outcome.{progress_of, OnTorn, UnlessTorn}
+use Rattle.hk_station.specs.Outcome.{progress_of}
 
-pub unless_from : (r : Progress) (P Q : Type 0) → (P → Q) → UnlessTorn r P → UnlessTorn r Q
-unless_from Going P Q f p = f p
-unless_from (Over ends.SinkFault) P Q f p = tt
-unless_from (Over ends.Ended) P Q f p = f p
-unless_from (Over (ends.Wire fault)) P Q f p = f p
-unless_from (Over (ends.FenceAhead asked found)) P Q f p = f p
-unless_from (Over ends.ReadFault) P Q f p = f p
-unless_from (Over ends.GateFault) P Q f p = f p
+pub ok_as : {T E Q : Type 0} (r : Result T E) → Q → OnOk r Q
+ok_as (Ok x) q = q
+ok_as (Err e) q = tt
 
-pub unless_both : (r : Progress) (P Q R : Type 0) → (P → Q → R) → UnlessTorn r P → UnlessTorn r Q → UnlessTorn r R
-unless_both Going P Q R f p q = f p q
-unless_both (Over ends.SinkFault) P Q R f p q = tt
-unless_both (Over ends.Ended) P Q R f p q = f p q
-unless_both (Over (ends.Wire fault)) P Q R f p q = f p q
-unless_both (Over (ends.FenceAhead asked found)) P Q R f p q = f p q
-unless_both (Over ends.ReadFault) P Q R f p q = f p q
-unless_both (Over ends.GateFault) P Q R f p q = f p q
+pub ok_both : {T E P Q R : Type 0} (r : Result T E) → (P → Q → R) → OnOk r P → OnOk r Q → OnOk r R
+ok_both (Ok x) f p q = f p q
+ok_both (Err e) f p q = tt
 
-pub unless_pair : (r : Progress) (P Q : Type 0) → UnlessTorn r P → UnlessTorn r Q → UnlessTorn r (P × Q)
-unless_pair r P Q p q = unless_both r P Q (P × Q) (λ p q. (p, q)) p q
-
-pub torn_from : (r : Progress) (P Q : Type 0) → (P → Q) → OnTorn r P → OnTorn r Q
-torn_from Going P Q f p = tt
-torn_from (Over ends.SinkFault) P Q f p = f p
-torn_from (Over ends.Ended) P Q f p = tt
-torn_from (Over (ends.Wire fault)) P Q f p = tt
-torn_from (Over (ends.FenceAhead asked found)) P Q f p = tt
-torn_from (Over ends.ReadFault) P Q f p = tt
-torn_from (Over ends.GateFault) P Q f p = tt
-
-pub torn_both : (r : Progress) (P Q R : Type 0) → (P → Q → R) → OnTorn r P → OnTorn r Q → OnTorn r R
-torn_both Going P Q R f p q = tt
-torn_both (Over ends.SinkFault) P Q R f p q = f p q
-torn_both (Over ends.Ended) P Q R f p q = tt
-torn_both (Over (ends.Wire fault)) P Q R f p q = tt
-torn_both (Over (ends.FenceAhead asked found)) P Q R f p q = tt
-torn_both (Over ends.ReadFault) P Q R f p q = tt
-torn_both (Over ends.GateFault) P Q R f p q = tt
-
-pub unless_as : (r : Progress) (Q : Type 0) → Q → UnlessTorn r Q
-unless_as r Q q = unless_from r Q Q (λ x. x) (all r)
-  where
-    all : (r : Progress) → UnlessTorn r Q
-    all Going = q
-    all (Over ends.SinkFault) = tt
-    all (Over ends.Ended) = q
-    all (Over (ends.Wire fault)) = q
-    all (Over (ends.FenceAhead asked found)) = q
-    all (Over ends.ReadFault) = q
-    all (Over ends.GateFault) = q
-
-pub wrote_nothing : (o : Option (List ℕ)) → Wrote [] o o
-wrote_nothing None = refl
-wrote_nothing (Some text) = ap (λ t. Some t) (sym (append-nil text))
+pub err_both : {T E P Q R : Type 0} (r : Result T E) → (P → Q → R) → OnErr r P → OnErr r Q → OnErr r R
+err_both (Ok x) f p q = tt
+err_both (Err e) f p q = f p q
 
 pub none_left : {A : Type 0} (o : Option A) → ((x : A) → o ≡ Some x → ⊥) → o ≡ None
 none_left None other = refl

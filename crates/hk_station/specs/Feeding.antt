@@ -1,71 +1,45 @@
--- A piece of a stream, its bytes heard one after another.
-use Rattle.std.specs.Prelude.{◌≡◌, ⊤, ℕ, ◌≤◌, ◌<◌, List, [], ◌++◌, ◌∷◌, map, fold, length, Option, Some}
-use Rattle.hk_base.specs.Devices.{Wrote}
-use Rattle.hk_spec_matching.specs.Catalogue.{Songs}
-use Rattle.hk_spec_streams.specs.Blocks.{blocks}
-use Rattle.hk_spec_runs.specs.Desk.{Rules}
-use Rattle.hk_spec_runs.specs.Replay.{Listener}
-use Rattle.hk_block.specs.Looker.{Past}
+-- What a station does with the bytes that it is given, with the view that it looks through, and with its log.
+use Rattle.std.specs.Prelude.{◌≡◌, ℕ, List, [], ◌∷◌}
+use Rattle.hk_base.specs.Writing.{HasWritten, HasFailed}
+use Rattle.hk_base.specs.declared.sink.Sink as sinks
+use Rattle.hk_spec_runs.specs.Listening.{Instant, after, Gives, GivesOne}
+use Rattle.hk_block.specs.Looker.{LookerView, Looks}
+use Rattle.hk_block.specs.declared.looker.Looker as lookers
 use Rattle.hk_station.specs.declared.station.Station.{Station}
-use Rattle.hk_station.specs.Hearing.{IsHearing, next, number_of, lines_of, version_of}
-use Rattle.hk_station.specs.Outcome.{lines_gained, looks_gained, Looked, IfLooked}
+use Rattle.hk_station.specs.Hearing.{IsHearing, ForEach, number_of, lines_of, version_of}
 
--- a byte as it was heard: the version then, and that version's songs
-pub record Instant : Type 0 where
-  pub byte : ℕ
-  pub version : ℕ
-  pub songs : Songs
+-- a byte as it is heard with this view
+abbrev pub instant : LookerView → ℕ → Instant
+instant view byte = record { byte = byte; version = view.at; songs = view.songs }
 
-abbrev pub bytes_in : List Instant → List ℕ
-bytes_in instants = map (λ i. i.byte) instants
+module _ {V K : Type 0} (looker : lookers.Ghosts V) (sink : sinks.Ghosts K) where
+  -- A station has heard these instants: the lines of their blocks were written, and their looks were made. Without a look the
+  -- view stays.
+  pub record HasHeard (instants : List Instant) (old new : Station) (view view' : V) (log log' : K) : Type 0 where
+    pub text : List ℕ
+    pub answers : List ℕ
+    pub writes : HasWritten sink text log log'
+    pub looks : Looks answers (looker.looker view) (looker.looker view')
+    pub idle : answers ≡ [] → view' ≡ view
+    pub number : number_of new ≡ number_of old
+    pub hears : ForEach old (λ rules l. IsHearing rules new (after rules l instants)
+        × Gives rules (number_of old) l instants text answers (looker.looker view').past)
 
--- Versions that never fall, from one to another.
-abbrev pub Rise : ℕ → List ℕ → ℕ → Type 0
-Rise from [] to = from ≤ to
-Rise from (v ∷ rest) to = (from ≤ v) × Rise v rest to
+  -- At this instant the write of a block's line failed. The line isn't counted, but its look was made.
+  pub record IsTorn (i : Instant) (old new : Station) (view view' : V) (log log' : K) : Type 0 where
+    pub line : List ℕ
+    pub fails : HasFailed sink line log log'
+    pub looks : Looks (i.version ∷ []) (looker.looker view) (looker.looker view')
+    pub at : i ≡ instant (looker.looker view') i.byte
+    pub number : number_of new ≡ number_of old
+    pub lines : lines_of new ≡ lines_of old
+    pub version_is : version_of new ≡ i.version
+    pub hears : ForEach old (λ rules l. GivesOne rules (number_of old) l i line)
 
-abbrev pub RiseIn : ℕ → List Instant → ℕ → Type 0
-RiseIn from instants to = Rise from (map (λ i. i.version) instants) to
-
--- a listener after one instant
-abbrev pub after_one : Rules → Listener → Instant → Listener
-after_one rules l i = next rules i.version l i.byte
-
--- a listener after these instants
-abbrev pub after : Rules → Listener → List Instant → Listener
-after rules l instants = fold (after_one rules) l instants
-
--- the lines of all blocks that they complete
-abbrev pub lines_over : Rules → ℕ → Listener → List Instant → List ℕ
-lines_over rules number l [] = []
-lines_over rules number l (i ∷ rest) = lines_gained rules number i.version i.songs l i.byte ++ lines_over rules number (after_one rules l i) rest
-
--- the version of a look for each block and each fence that they complete
-abbrev pub looks_over : Rules → Listener → List Instant → List ℕ
-looks_over rules l [] = []
-looks_over rules l (i ∷ rest) = looks_gained rules i.version l i.byte ++ looks_over rules (after_one rules l i) rest
-
--- The past tells the songs of each of these looks.
-abbrev pub AreKnown : Rules → Listener → List Instant → Past → Type 0
-AreKnown rules l [] past = ⊤
-AreKnown rules l (i ∷ rest) past = IfLooked (looks_gained rules i.version l i.byte) (past i.version ≡ Some i.songs) × AreKnown rules (after_one rules l i) rest past
-
--- A listener's station has heard these instants: their lines stand in the log, and their looks were made and are known.
-pub record HasHeard (rules : Rules) (l : Listener) (instants : List Instant) (old new : Station) (written written' shown shown' : Option (List ℕ)) (past : Past) : Type 0 where
-  pub hears : IsHearing rules new (after rules l instants)
-  pub writes : Wrote (lines_over rules (number_of old) l instants) written written'
-  pub shows : Looked (looks_over rules l instants) shown shown'
-  pub knows : AreKnown rules l instants past
-
--- A write failed at the instant behind these: their lines stand in the log, and then a proper front of that instant's line. It
--- isn't counted, but its look was made.
-pub record WasTorn (rules : Rules) (l : Listener) (instants : List Instant) (torn : Instant) (old new : Station) (written written' shown shown' : Option (List ℕ)) (past : Past) : Type 0 where
-  pub front : List ℕ
-  pub missing : List ℕ
-  pub line : lines_gained rules (number_of old) torn.version torn.songs (after rules l instants) torn.byte ≡ front ++ missing
-  pub proper : 0 < length missing
-  pub writes : Wrote (lines_over rules (number_of old) l instants ++ front) written written'
-  pub lines : lines_of new ≡ length (blocks rules.setting (after rules l instants).used)
-  pub version_is : version_of new ≡ torn.version
-  pub shows : Looked (looks_over rules l (instants ++ torn ∷ [])) shown shown'
-  pub knows : AreKnown rules l (instants ++ torn ∷ []) past
+  -- These instants were heard, and at the next one a write failed.
+  pub record WasTorn (instants : List Instant) (torn : Instant) (old new : Station) (view view' : V) (log log' : K) : Type 0 where
+    pub station : Station
+    pub seen : V
+    pub whole : K
+    pub heard : HasHeard instants old station view seen log whole
+    pub tears : IsTorn torn station new seen view' whole log'

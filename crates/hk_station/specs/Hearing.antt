@@ -1,9 +1,9 @@
 -- A station and what it has heard.
-use Rattle.std.specs.Prelude.{◌≡◌, ℕ, if◌then◌else◌, [], length, Option, None, is_some}
+use Rattle.std.specs.Prelude.{◌≡◌, ℕ, length, Option, None}
 use Rattle.hk_base.specs.declared.plain.End.{End}
 use Rattle.hk_spec_streams.specs.Blocks.{blocks}
 use Rattle.hk_spec_runs.specs.Desk.{Rules}
-use Rattle.hk_spec_runs.specs.Replay.{Listener, heard}
+use Rattle.hk_spec_runs.specs.Replay.{Listener}
 use Rattle.hk_receiver.specs.Received.{HasReceived}
 use Rattle.hk_station.specs.declared.station.Station.{Station}
 
@@ -34,10 +34,10 @@ pub record IsHearing (rules : Rules) (station : Station) (l : Listener) : Type 0
 abbrev pub ForEach : Station → (Rules → Listener → Type 0) → Type 0
 ForEach station P = (rules : Rules) (l : Listener) → IsHearing rules station l → P rules l
 
--- a listener before its first byte
-abbrev pub unheard : Listener
-unheard = record { used = []; version = 0; end = None }
-
--- A listener's next byte, with the catalogue at version v; one that is over skips it.
-abbrev pub next : Rules → ℕ → Listener → ℕ → Listener
-next rules v l byte = if is_some l.end then l else heard rules v l byte
+-- The receiver and the number stay, and the rest is this.
+pub record Becomes (old new : Station) (lines version : ℕ) (end : Option End) : Type 0 where
+  pub receiver : new.receiver ≡ old.receiver
+  pub number : new.number ≡ old.number
+  pub lines_are : new.lines ≡ lines
+  pub version_is : new.version ≡ version
+  pub end_is : new.end ≡ end

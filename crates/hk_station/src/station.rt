@@ -1,17 +1,17 @@
 // A station: its receiver, its count of lines, the version of its last look, and its end.
 ghost use Rattle.std.specs.Prelude.{◌≡◌, ◌≤◌, ◌<◌, ◌+◌, [], ◌∷◌, ◌++◌, ℕ, List, Some, None, IfOk, IsTrue, length, nat_lt, if◌then◌else◌};
-ghost use Rattle.hk_base.specs.Devices.{Rose, Wrote};
+ghost use Rattle.hk_base.specs.Writing.{Writes};
 ghost use Rattle.hk_base.specs.declared.plain.End.{End};
 ghost use Rattle.hk_base.specs.declared.plain.End.TheVariants as ends;
 ghost use Rattle.hk_spec_streams.specs.Blocks.{blocks};
 ghost use Rattle.hk_spec_lines.specs.Lines.{line};
 ghost use Rattle.hk_spec_runs.specs.Desk.{Rules};
-ghost use Rattle.hk_spec_runs.specs.Replay.{Listener, end_of};
+ghost use Rattle.hk_spec_runs.specs.Replay.{end_of};
+ghost use Rattle.hk_spec_runs.specs.Listening.{Instant, bytes_in, unheard};
 ghost use Rattle.hk_block.specs.Ring.{is_full};
-ghost use Rattle.hk_block.specs.Looker.{KeepsPast, matches_in};
+ghost use Rattle.hk_block.specs.Looker.{Looks, matches_in};
 ghost use Rattle.hk_receiver.specs.Kept.{MOST_BYTES, IsSetTo};
 ghost use Rattle.hk_receiver.specs.Received.{blocks_of, ring_of};
-ghost use Rattle.hk_report.specs.Fronts.{WroteFront};
 
 use hk_base::{End, Head, NoMemory, Sink, Steps};
 use hk_block::{Looker, Scratch};
@@ -40,9 +40,9 @@ pub struct Station {
 }
 
 impl Station {
-    ghost use Rattle.hk_station.specs.Hearing.{IsHearing, ForEach, unheard, next, number_of, lines_of, version_of, kept_end};
-    ghost use Rattle.hk_station.specs.Outcome.{progress_of, OnTorn, UnlessTorn, blocks_gained, lines_gained, looks_gained, Looked, IfLooked, head_at};
-    ghost use Rattle.hk_station.specs.Feeding.{Instant, bytes_in, RiseIn, HasHeard, WasTorn, looks_over};
+    ghost use Rattle.hk_station.specs.Hearing.{IsHearing, ForEach, number_of, lines_of, version_of, kept_end, Becomes};
+    ghost use Rattle.hk_station.specs.Outcome.{progress_of, log_result, OnTorn, UnlessTorn, head_at};
+    ghost use Rattle.hk_station.specs.Feeding.{instant, HasHeard, IsTorn, WasTorn};
 
     /// Station `number`, before its first byte. `flips` bits of a print of sound are weak, blocks begin `hop` prints apart,
     /// and the stream has at most `limit` bytes. It takes all memory that it needs.
@@ -83,39 +83,14 @@ impl Station {
         log: &mut K,
         steps: &mut Steps<L>,
     ) -> Progress
-        requires room { V.room view.old ≤ scratch.old.room }
-
-        ensures hears { UnlessTorn result (ForEach self.old (λ rules l. IsHearing rules self.new (next rules (V.at view.new) l byte))) }
+        requires room { (V.looker view.old).room ≤ scratch.old.room }
+        ensures heard { UnlessTorn result (HasHeard V.Looker K.Sink (instant (V.looker view.new) byte ∷ [])
+            self.old self.new view.old view.new log.old log.new) }
+        ensures torn { kept_end self.old ≡ None → OnTorn result (IsTorn V.Looker K.Sink (instant (V.looker view.new) byte)
+            self.old self.new view.old view.new log.old log.new) }
         ensures tells { result ≡ progress_of (kept_end self.new) }
-        ensures whole { UnlessTorn result (ForEach self.old (λ rules l.
-            Wrote (lines_gained rules (number_of self.old) (V.at view.new) (V.songs view.new) l byte) (K.written log.old) (K.written log.new))) }
-        ensures torn { kept_end self.old ≡ None → OnTorn result (ForEach self.old (λ rules l.
-            WroteFront (lines_gained rules (number_of self.old) (V.at view.new) (V.songs view.new) l byte) (K.written log.old) (K.written log.new))) }
-        ensures torn_lines { kept_end self.old ≡ None → OnTorn result (lines_of self.new ≡ lines_of self.old) }
-        ensures torn_version { kept_end self.old ≡ None → OnTorn result (version_of self.new ≡ V.at view.new) }
-
-        ensures over { (end : End) → kept_end self.old ≡ Some end → result ≡ Progress.Over end }
-        ensures over_station { (end : End) → kept_end self.old ≡ Some end → self.new ≡ self.old }
-        ensures over_log { (end : End) → kept_end self.old ≡ Some end → log.new ≡ log.old }
-        ensures over_view { (end : End) → kept_end self.old ≡ Some end → view.new ≡ view.old }
+        ensures over { (end : End) → kept_end self.old ≡ Some end → (self.new ≡ self.old) × (view.new ≡ view.old) × (log.new ≡ log.old) }
         ensures number_stays { number_of self.new ≡ number_of self.old }
-
-        ensures cause { kept_end self.old ≡ None → OnTorn result (Rose (K.faults log.old) (K.faults log.new)) }
-        ensures never_falls { K.faults log.old ≤ K.faults log.new }
-        ensures counts_failures { UnlessTorn result (K.faults log.new ≡ K.faults log.old) }
-
-        ensures unlooked { UnlessTorn result (ForEach self.old (λ rules l. looks_gained rules (V.at view.new) l byte ≡ [] → view.new ≡ view.old)) }
-        ensures shows { kept_end self.old ≡ None → ForEach self.old (λ rules l. Looked (looks_gained rules (V.at view.new) l byte) (V.shown view.old) (V.shown view.new)) }
-        ensures known_look { ForEach self.old (λ rules l. IfLooked (looks_gained rules (V.at view.new) l byte) (V.past view.new (V.at view.new) ≡ Some (V.songs view.new))) }
-        ensures never_back { V.at view.old ≤ V.at view.new }
-        ensures known { V.past view.old (V.at view.old) ≡ Some (V.songs view.old) → V.past view.new (V.at view.new) ≡ Some (V.songs view.new) }
-        ensures past_stays { KeepsPast (V.past view.old) (V.past view.new) }
-        ensures room_stays { V.room view.new ≡ V.room view.old }
-        ensures home_stays { V.home view.new ≡ V.home view.old }
-        ensures still_stays { V.still view.new ≡ V.still view.old }
-        ensures still_version { IsTrue (V.still view.old) → V.at view.new ≡ V.at view.old }
-        ensures still_songs { IsTrue (V.still view.old) → V.songs view.new ≡ V.songs view.old }
-        ensures still_shelf { IsTrue (V.still view.old) → V.shelf view.new ≡ V.shelf view.old }
         ensures scratch_room { scratch.new.room ≡ scratch.old.room }
     {
         if let Some(end) = self.end {
@@ -140,31 +115,15 @@ impl Station {
         log: &mut K,
         steps: &mut Steps<L>,
     ) -> Progress
-        requires room { V.room view.old ≤ scratch.old.room }
-        ensures whole { UnlessTorn result ((instants : List Instant) × (bytes_in instants ≡ piece.now) × RiseIn (V.at view.old) instants (V.at view.new)
-            × ForEach self.old (λ rules l. HasHeard rules l instants self.old self.new (K.written log.old) (K.written log.new) (V.shown view.old) (V.shown view.new) (V.past view.new)
-            × (looks_over rules l instants ≡ [] → view.new ≡ view.old))) }
+        requires room { (V.looker view.old).room ≤ scratch.old.room }
+        ensures heard { UnlessTorn result ((instants : List Instant) × (bytes_in instants ≡ piece.now)
+            × HasHeard V.Looker K.Sink instants self.old self.new view.old view.new log.old log.new) }
         ensures torn { kept_end self.old ≡ None → OnTorn result ((instants : List Instant) × (torn : Instant) × (left : List ℕ)
-            × (bytes_in instants ++ torn.byte ∷ left ≡ piece.now) × RiseIn (V.at view.old) (instants ++ torn ∷ []) (V.at view.new)
-            × ForEach self.old (λ rules l. WasTorn rules l instants torn self.old self.new (K.written log.old) (K.written log.new) (V.shown view.old) (V.shown view.new) (V.past view.new))) }
+            × (bytes_in instants ++ torn.byte ∷ left ≡ piece.now)
+            × WasTorn V.Looker K.Sink instants torn self.old self.new view.old view.new log.old log.new) }
         ensures tells { result ≡ progress_of (kept_end self.new) }
-        ensures over { (end : End) → kept_end self.old ≡ Some end → result ≡ Progress.Over end }
-        ensures over_station { (end : End) → kept_end self.old ≡ Some end → self.new ≡ self.old }
-        ensures over_log { (end : End) → kept_end self.old ≡ Some end → log.new ≡ log.old }
-        ensures over_view { (end : End) → kept_end self.old ≡ Some end → view.new ≡ view.old }
+        ensures over { (end : End) → kept_end self.old ≡ Some end → (self.new ≡ self.old) × (view.new ≡ view.old) × (log.new ≡ log.old) }
         ensures number_stays { number_of self.new ≡ number_of self.old }
-        ensures cause { kept_end self.old ≡ None → OnTorn result (Rose (K.faults log.old) (K.faults log.new)) }
-        ensures never_falls { K.faults log.old ≤ K.faults log.new }
-        ensures counts_failures { UnlessTorn result (K.faults log.new ≡ K.faults log.old) }
-        ensures never_back { V.at view.old ≤ V.at view.new }
-        ensures known { V.past view.old (V.at view.old) ≡ Some (V.songs view.old) → V.past view.new (V.at view.new) ≡ Some (V.songs view.new) }
-        ensures past_stays { KeepsPast (V.past view.old) (V.past view.new) }
-        ensures room_stays { V.room view.new ≡ V.room view.old }
-        ensures home_stays { V.home view.new ≡ V.home view.old }
-        ensures still_stays { V.still view.new ≡ V.still view.old }
-        ensures still_version { IsTrue (V.still view.old) → V.at view.new ≡ V.at view.old }
-        ensures still_songs { IsTrue (V.still view.old) → V.songs view.new ≡ V.songs view.old }
-        ensures still_shelf { IsTrue (V.still view.old) → V.shelf view.new ≡ V.shelf view.old }
         ensures scratch_room { scratch.new.room ≡ scratch.old.room }
     {
         if let Some(kept) = self.end {
@@ -182,35 +141,20 @@ impl Station {
     // Ends the station.
     fn close(&mut self, end: End) -> Progress
         ensures over { result ≡ Progress.Over end }
-        ensures kept { kept_end self.new ≡ Some end }
-        ensures receiver_stays { self.new.receiver ≡ self.old.receiver }
-        ensures number_stays { self.new.number ≡ self.old.number }
-        ensures lines_stay { self.new.lines ≡ self.old.lines }
-        ensures version_stays { self.new.version ≡ self.old.version }
+        ensures closes { Becomes self.old self.new self.old.lines self.old.version (Some end) }
     {
         self.end = Some(end);
         Progress::Over(end)
     }
 
     // Asks the view for its version, which may not be below the one that a fence asks for.
+    #[inline(never)]
     fn meet<V: Looker>(&mut self, asked: u32, view: &mut V) -> Progress
         requires going { kept_end self.old ≡ None }
         ensures tells { result ≡ progress_of (kept_end self.new) }
-        ensures met { kept_end self.new ≡ (if nat_lt (V.at view.new) asked then Some (ends.FenceAhead asked (V.at view.new)) else None) }
-        ensures version { self.new.version ≡ V.at view.new }
-        ensures receiver_stays { self.new.receiver ≡ self.old.receiver }
-        ensures number_stays { self.new.number ≡ self.old.number }
-        ensures lines_stay { self.new.lines ≡ self.old.lines }
-        ensures shows { Looked (V.at view.new ∷ []) (V.shown view.old) (V.shown view.new) }
-        ensures never_back { V.at view.old ≤ V.at view.new }
-        ensures known { V.past view.new (V.at view.new) ≡ Some (V.songs view.new) }
-        ensures past_stays { KeepsPast (V.past view.old) (V.past view.new) }
-        ensures room_stays { V.room view.new ≡ V.room view.old }
-        ensures home_stays { V.home view.new ≡ V.home view.old }
-        ensures still_stays { V.still view.new ≡ V.still view.old }
-        ensures still_version { IsTrue (V.still view.old) → V.at view.new ≡ V.at view.old }
-        ensures still_songs { IsTrue (V.still view.old) → V.songs view.new ≡ V.songs view.old }
-        ensures still_shelf { IsTrue (V.still view.old) → V.shelf view.new ≡ V.shelf view.old }
+        ensures meets { Becomes self.old self.new self.old.lines (V.looker view.new).at
+            (if nat_lt (V.looker view.new).at asked then Some (ends.FenceAhead asked (V.looker view.new).at) else None) }
+        ensures looks { Looks ((V.looker view.new).at ∷ []) (V.looker view.old) (V.looker view.new) }
     {
         let found = view.now();
         self.version = found;
@@ -221,6 +165,7 @@ impl Station {
     }
 
     // Looks up the block that the last print completed, and writes its line.
+    #[inline(never)]
     fn report<V: Looker, K: Sink, L: Ledger>(
         &mut self,
         view: &mut V,
@@ -229,32 +174,16 @@ impl Station {
         steps: &mut Steps<L>,
     ) -> Progress
         requires going { kept_end self.old ≡ None }
-        requires room { V.room view.old ≤ scratch.old.room }
+        requires room { (V.looker view.old).room ≤ scratch.old.room }
         requires full { IsTrue (is_full (ring_of self.old.receiver)) }
         requires uncounted { self.old.lines < blocks_of self.old.receiver }
         requires few { blocks_of self.old.receiver ≤ MOST_BYTES }
         ensures tells { result ≡ progress_of (kept_end self.new) }
-        ensures goes_on { UnlessTorn result (kept_end self.new ≡ None) }
-        ensures whole { UnlessTorn result (Wrote (line (head_at self.old (V.at view.new)) (matches_in (ring_of self.old.receiver) (V.songs view.new))) (K.written log.old) (K.written log.new)) }
-        ensures torn { OnTorn result (WroteFront (line (head_at self.old (V.at view.new)) (matches_in (ring_of self.old.receiver) (V.songs view.new))) (K.written log.old) (K.written log.new)) }
-        ensures receiver_stays { self.new.receiver ≡ self.old.receiver }
-        ensures number_stays { self.new.number ≡ self.old.number }
-        ensures counts { UnlessTorn result (self.new.lines ≡ self.old.lines + 1) }
-        ensures torn_lines { OnTorn result (self.new.lines ≡ self.old.lines) }
-        ensures version { self.new.version ≡ V.at view.new }
-        ensures cause { OnTorn result (Rose (K.faults log.old) (K.faults log.new)) }
-        ensures never_falls { K.faults log.old ≤ K.faults log.new }
-        ensures counts_failures { UnlessTorn result (K.faults log.new ≡ K.faults log.old) }
-        ensures shows { Looked (V.at view.new ∷ []) (V.shown view.old) (V.shown view.new) }
-        ensures never_back { V.at view.old ≤ V.at view.new }
-        ensures known { V.past view.new (V.at view.new) ≡ Some (V.songs view.new) }
-        ensures past_stays { KeepsPast (V.past view.old) (V.past view.new) }
-        ensures room_stays { V.room view.new ≡ V.room view.old }
-        ensures home_stays { V.home view.new ≡ V.home view.old }
-        ensures still_stays { V.still view.new ≡ V.still view.old }
-        ensures still_version { IsTrue (V.still view.old) → V.at view.new ≡ V.at view.old }
-        ensures still_songs { IsTrue (V.still view.old) → V.songs view.new ≡ V.songs view.old }
-        ensures still_shelf { IsTrue (V.still view.old) → V.shelf view.new ≡ V.shelf view.old }
+        ensures writes { Writes K.Sink (line (head_at self.old (V.looker view.new).at) (matches_in (ring_of self.old.receiver) (V.looker view.new).songs))
+            (log_result result) log.old log.new }
+        ensures counts { UnlessTorn result (Becomes self.old self.new (self.old.lines + 1) (V.looker view.new).at None) }
+        ensures torn { OnTorn result (Becomes self.old self.new self.old.lines (V.looker view.new).at (Some ends.SinkFault)) }
+        ensures looks { Looks ((V.looker view.new).at ∷ []) (V.looker view.old) (V.looker view.new) }
         ensures scratch_room { scratch.new.room ≡ scratch.old.room }
     {
         let version = view.look(self.receiver.ring(), scratch, steps);

@@ -31,21 +31,16 @@ struct NoSongs {
 }
 
 impl Looker for NoSongs {
-    ghost at = { λ s. s.version };
-
-    ghost past = { λ s v. Some [] };
-
-    ghost songs = { λ s. [] };
-
-    ghost room = { λ s. 0 };
-
-    ghost shown = { λ s. None };
-
-    ghost shelf = { λ s. None };
-
-    ghost still = { λ s. true };
-
-    ghost home = { λ s. None };
+    ghost looker = { λ s. record {
+      at = s.version;
+      past = λ v. Some [];
+      songs = [];
+      room = 0;
+      shown = None;
+      shelf = None;
+      still = true;
+      home = None;
+    } };
 
     #[tactic(auto, unfolding(hk_spec_matching::specs::Matching::matches))]
     fn look<L: Ledger>(

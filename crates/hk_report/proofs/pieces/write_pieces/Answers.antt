@@ -1,14 +1,7 @@
-use Rattle.std.proofs.Common.{arith}
+use Rattle.hk_base.proofs.Writing.{torn_at}
 use Rattle.hk_report.specs.Pieces.{piece_text}
-use Rattle.hk_report.proofs.Fronts.{torn_at}
 use Rattle.hk_report.proofs.pieces.write_pieces.Goals as goal
 
 -- the pieces so far, and a front of this one
 pub returns-in-Err : goal.returns-in-Err
-returns-in-Err g c = record {
-  whole = tt;
-  torn = torn_at piece_text _ _ _ _ _ _ c.loop-piece-test.true c.loop-piece.invariant.front c.in-Err.ensures.torn;
-  cause = omega (arith, c.in-Err.ensures.cause);
-  never_falls = omega arith;
-  stays = tt;
-}
+returns-in-Err g c = record { whole = tt; torn = torn_at piece_text _ _ _ c.loop-piece-test.true c.loop-piece.invariant.written c.in-Err.ensures.torn }

@@ -1,6 +1,6 @@
-use Rattle.std.proofs.Common.{arith, ◌∙◌, ℕ, List, length-drop, subst}
-use Rattle.hk_base.specs.Devices.{Wrote}
-use Rattle.hk_base.proofs.Taking.{Wrote-append}
+use Rattle.std.proofs.Common.{arith, length-drop, subst}
+use Rattle.hk_base.specs.Writing.{HasWritten}
+use Rattle.hk_base.proofs.Writing.{written-append}
 use Rattle.hk_report.proofs.Fronts.{front_grows}
 use Rattle.hk_report.proofs.pieces.write_text.Goals as goal
 
@@ -8,8 +8,7 @@ use Rattle.hk_report.proofs.pieces.write_text.Goals as goal
 pub loop-done-preserved : goal.loop-done-preserved
 loop-done-preserved g c = record {
   within = grind (arith, length-drop);
-  front =
-      let P : List ℕ → Type 0 = λ o. Wrote o (g.K.Sink.written c.args.sink.now) (g.K.Sink.written c.write.new.self) in
-      subst P (front_grows c.args.text.now c.loop-done.done c.in-Ok.n) (Wrote-append _ _ _ _ _ c.loop-done.invariant.front c.in-Ok.ensures.appended);
-  faults = c.in-Ok.ensures.counts_failures ∙ c.loop-done.invariant.faults;
+  written =
+      let added : HasWritten g.K.Sink _ _ c.write.new.self = record { appended = c.in-Ok.ensures.appended; stays = c.in-Ok.ensures.counts_failures } in
+      subst (λ text. HasWritten g.K.Sink text c.args.sink.now c.write.new.self) (front_grows c.args.text.now c.loop-done.done c.in-Ok.n) (written-append c.loop-done.invariant.written added);
 }

@@ -1,13 +1,6 @@
-use Rattle.std.proofs.Common.{arith}
-use Rattle.hk_report.proofs.Fronts.{torn_at}
+use Rattle.hk_base.proofs.Writing.{torn_at}
 use Rattle.hk_report.proofs.pieces.write_texts.Goals as goal
 
 -- the texts so far, and a front of this one
 pub returns-in-Err : goal.returns-in-Err
-returns-in-Err g c = record {
-  whole = tt;
-  torn = torn_at (λ part. part.now) _ _ _ _ _ _ c.loop-part-test.true c.loop-part.invariant.front c.in-Err.ensures.torn;
-  cause = omega (arith, c.in-Err.ensures.cause);
-  never_falls = omega arith;
-  stays = tt;
-}
+returns-in-Err g c = record { whole = tt; torn = torn_at (λ part. part.now) _ _ _ c.loop-part-test.true c.loop-part.invariant.written c.in-Err.ensures.torn }
