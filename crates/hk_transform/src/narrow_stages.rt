@@ -22,8 +22,11 @@ pub fn ten_stages(circle: &Circle, re: &mut [i32], im: &mut [i32])
     ensures halves { (items : List Complex) → length items ≡ 2048 → complexes re.old im.old ≡ joined_lists (parts_of 11 items)
         → complexes re.new im.new ≡ halves_of 10 items }
 {
-    let mut half = 1;
-    for before in 0..STAGES {
+    // With constants for the lengths the first two have no inner loop.
+    stage(circle, 0, 1, 1024, re, im);
+    stage(circle, 1, 2, 512, re, im);
+    let mut half = 4;
+    for before in 2..STAGES {
         stage(circle, before, half, 1024 / half, re, im);
         half *= 2;
     }
@@ -31,6 +34,7 @@ pub fn ten_stages(circle: &Circle, re: &mut [i32], im: &mut [i32])
 
 // One stage: each block of `2 * half` items has the transforms of the items at even and at odd places of some list, and then
 // that list's own.
+#[inline(always)]
 fn stage(circle: &Circle, before: u32, half: usize, blocks: usize, re: &mut [i32], im: &mut [i32])
     requires few { before ≤ 9 }
     requires half { half ≡ 2 ^ before }
