@@ -3,7 +3,7 @@ ghost use Rattle.std.specs.Prelude.{◌≡◌, ◌<◌, ◌≤◌, ◌+◌, ◌*
 ghost use Rattle.hk_spec_sound.specs.Circle.{quarter, cos_of, sin_of};
 ghost use Rattle.hk_spec_sound.specs.Spectrum.{complexes, AreBelow};
 ghost use Rattle.hk_circle.specs.Tables.{TurnsOf};
-ghost use Rattle.hk_transform.specs.Joined.{sums, differences};
+ghost use Rattle.hk_transform.specs.Joined.{sums, differences, HalvesBelow};
 
 use crate::item::Item;
 
@@ -43,10 +43,7 @@ fn join_halves(
     requires even_im_len { length even_im.old ≡ length even_re.old }
     requires odd_re_len { length odd_re.old ≡ length even_re.old }
     requires odd_im_len { length odd_im.old ≡ length even_re.old }
-    requires even_re_below { AreBelow (5 * 2 ^ 27) even_re.old }
-    requires even_im_below { AreBelow (5 * 2 ^ 27) even_im.old }
-    requires odd_re_below { AreBelow (5 * 2 ^ 27) odd_re.old }
-    requires odd_im_below { AreBelow (5 * 2 ^ 27) odd_im.old }
+    requires below { HalvesBelow (5 * 2 ^ 27) even_re.old even_im.old odd_re.old odd_im.old }
     ensures even_re_len { length even_re.new ≡ length even_re.old }
     ensures even_im_len { length even_im.new ≡ length even_re.old }
     ensures odd_re_len { length odd_re.new ≡ length even_re.old }
@@ -55,14 +52,8 @@ fn join_halves(
         ≡ sums (quarter 9) (1024 / length even_re.old) (complexes even_re.old even_im.old) (complexes odd_re.old odd_im.old) }
     ensures differences { complexes odd_re.new odd_im.new
         ≡ differences (quarter 9) (1024 / length even_re.old) (complexes even_re.old even_im.old) (complexes odd_re.old odd_im.old) }
-    ensures even_re_below { (limit : ℕ) → AreBelow limit even_re.old → AreBelow limit even_im.old → AreBelow limit odd_re.old → AreBelow limit odd_im.old
-        → AreBelow (3 * limit) even_re.new }
-    ensures even_im_below { (limit : ℕ) → AreBelow limit even_re.old → AreBelow limit even_im.old → AreBelow limit odd_re.old → AreBelow limit odd_im.old
-        → AreBelow (3 * limit) even_im.new }
-    ensures odd_re_below { (limit : ℕ) → AreBelow limit even_re.old → AreBelow limit even_im.old → AreBelow limit odd_re.old → AreBelow limit odd_im.old
-        → AreBelow (3 * limit) odd_re.new }
-    ensures odd_im_below { (limit : ℕ) → AreBelow limit even_re.old → AreBelow limit even_im.old → AreBelow limit odd_re.old → AreBelow limit odd_im.old
-        → AreBelow (3 * limit) odd_im.new }
+    ensures below { (limit : ℕ) → HalvesBelow limit even_re.old even_im.old odd_re.old odd_im.old
+        → HalvesBelow (3 * limit) even_re.new even_im.new odd_re.new odd_im.new }
 {
     for k in 0..even_re.len() {
         let even = item_at(even_re, even_im, k);

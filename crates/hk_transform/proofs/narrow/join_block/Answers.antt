@@ -4,7 +4,7 @@ use Rattle.std.proofs.lemmas.List.{length-take-le}
 use Rattle.std.proofs.lemmas.List.Elements.{All-append, All-take, All-drop, All-same}
 use Rattle.hk_spec_sound.specs.Circle.{quarter}
 use Rattle.hk_spec_sound.specs.Spectrum.{complexes}
-use Rattle.hk_transform.specs.Joined.{sums, differences}
+use Rattle.hk_transform.specs.Joined.{sums, differences, HalvesBelow}
 use Rattle.hk_transform.proofs.Joining.{complexes-append}
 use Rattle.hk_transform.proofs.narrow.join_block.Goals as goal
 
@@ -42,7 +42,9 @@ returns-clause-re_below c = λ limit re_below im_below.
     let ei : All P c.split_at_mut-even_im.result.0.now = All-same P c.split_at_mut-even_im.result.0.now (take half im) c.split_at_mut-even_im.ensures.front (All-take P half im im_below) in
     let or : All P c.split_at_mut-even_re.result.1.now = All-same P c.split_at_mut-even_re.result.1.now (drop half re) c.split_at_mut-even_re.ensures.back (All-drop P half re re_below) in
     let oi : All P c.split_at_mut-even_im.result.1.now = All-same P c.split_at_mut-even_im.result.1.now (drop half im) c.split_at_mut-even_im.ensures.back (All-drop P half im im_below) in
-    All-append Q c.join_halves.new.even_re c.join_halves.new.odd_re (is.even_re_below limit er ei or oi) (is.odd_re_below limit er ei or oi)
+    let old : HalvesBelow limit c.split_at_mut-even_re.result.0.now c.split_at_mut-even_im.result.0.now c.split_at_mut-even_re.result.1.now c.split_at_mut-even_im.result.1.now =
+    record { even_re = er; even_im = ei; odd_re = or; odd_im = oi } in
+    All-append Q c.join_halves.new.even_re c.join_halves.new.odd_re (is.below limit old).even_re (is.below limit old).odd_re
 
 pub returns-clause-im_below : goal.returns-clause-im_below
 returns-clause-im_below c = λ limit re_below im_below.
@@ -56,4 +58,6 @@ returns-clause-im_below c = λ limit re_below im_below.
     let ei : All P c.split_at_mut-even_im.result.0.now = All-same P c.split_at_mut-even_im.result.0.now (take half im) c.split_at_mut-even_im.ensures.front (All-take P half im im_below) in
     let or : All P c.split_at_mut-even_re.result.1.now = All-same P c.split_at_mut-even_re.result.1.now (drop half re) c.split_at_mut-even_re.ensures.back (All-drop P half re re_below) in
     let oi : All P c.split_at_mut-even_im.result.1.now = All-same P c.split_at_mut-even_im.result.1.now (drop half im) c.split_at_mut-even_im.ensures.back (All-drop P half im im_below) in
-    All-append Q c.join_halves.new.even_im c.join_halves.new.odd_im (is.even_im_below limit er ei or oi) (is.odd_im_below limit er ei or oi)
+    let old : HalvesBelow limit c.split_at_mut-even_re.result.0.now c.split_at_mut-even_im.result.0.now c.split_at_mut-even_re.result.1.now c.split_at_mut-even_im.result.1.now =
+    record { even_re = er; even_im = ei; odd_re = or; odd_im = oi } in
+    All-append Q c.join_halves.new.even_im c.join_halves.new.odd_im (is.below limit old).even_im (is.below limit old).odd_im

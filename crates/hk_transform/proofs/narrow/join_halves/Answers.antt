@@ -10,9 +10,9 @@ pub narrowed-requires : goal.narrowed-requires
 narrowed-requires c =
     let k = c.loop-k.k in
     let inv = c.loop-k.invariant in
-    let e = below_at (5 * 2 ^ 27) c.args.even_re.now k (omega arith) c.requires.even_re_below in
-    let o = below_at (5 * 2 ^ 27) c.args.odd_re.now k (omega arith) c.requires.odd_re_below in
-    let q = below_at (5 * 2 ^ 27) c.args.odd_im.now k (omega arith) c.requires.odd_im_below in
+    let e = below_at (5 * 2 ^ 27) c.args.even_re.now k (omega arith) c.requires.below.even_re in
+    let o = below_at (5 * 2 ^ 27) c.args.odd_re.now k (omega arith) c.requires.below.odd_re in
+    let q = below_at (5 * 2 ^ 27) c.args.odd_im.now k (omega arith) c.requires.below.odd_im in
     let even = c.item_at-even.ensures.re ∙ inv.even_re_rest k (omega arith) in
     let odd_re = c.item_at-odd.ensures.re ∙ inv.odd_re_rest k (omega arith) in
     let odd_im = c.item_at-odd.ensures.im ∙ inv.odd_im_rest k (omega arith) in
@@ -23,9 +23,9 @@ pub narrowed-requires-in-loop-k : goal.narrowed-requires-in-loop-k
 narrowed-requires-in-loop-k c =
     let k = c.loop-k.k in
     let inv = c.loop-k.invariant in
-    let e = below_at (5 * 2 ^ 27) c.args.even_im.now k (omega arith) c.requires.even_im_below in
-    let o = below_at (5 * 2 ^ 27) c.args.odd_re.now k (omega arith) c.requires.odd_re_below in
-    let q = below_at (5 * 2 ^ 27) c.args.odd_im.now k (omega arith) c.requires.odd_im_below in
+    let e = below_at (5 * 2 ^ 27) c.args.even_im.now k (omega arith) c.requires.below.even_im in
+    let o = below_at (5 * 2 ^ 27) c.args.odd_re.now k (omega arith) c.requires.below.odd_re in
+    let q = below_at (5 * 2 ^ 27) c.args.odd_im.now k (omega arith) c.requires.below.odd_im in
     let even = c.item_at-even.ensures.im ∙ inv.even_im_rest k (omega arith) in
     let odd_re = c.item_at-odd.ensures.re ∙ inv.odd_re_rest k (omega arith) in
     let odd_im = c.item_at-odd.ensures.im ∙ inv.odd_im_rest k (omega arith) in
@@ -36,9 +36,9 @@ pub narrowed-requires-in-loop-k-2 : goal.narrowed-requires-in-loop-k-2
 narrowed-requires-in-loop-k-2 c =
     let k = c.loop-k.k in
     let inv = c.loop-k.invariant in
-    let e = below_at (5 * 2 ^ 27) c.args.even_re.now k (omega arith) c.requires.even_re_below in
-    let o = below_at (5 * 2 ^ 27) c.args.odd_re.now k (omega arith) c.requires.odd_re_below in
-    let q = below_at (5 * 2 ^ 27) c.args.odd_im.now k (omega arith) c.requires.odd_im_below in
+    let e = below_at (5 * 2 ^ 27) c.args.even_re.now k (omega arith) c.requires.below.even_re in
+    let o = below_at (5 * 2 ^ 27) c.args.odd_re.now k (omega arith) c.requires.below.odd_re in
+    let q = below_at (5 * 2 ^ 27) c.args.odd_im.now k (omega arith) c.requires.below.odd_im in
     let even = c.item_at-even.ensures.re ∙ inv.even_re_rest k (omega arith) in
     let odd_re = c.item_at-odd.ensures.re ∙ inv.odd_re_rest k (omega arith) in
     let odd_im = c.item_at-odd.ensures.im ∙ inv.odd_im_rest k (omega arith) in
@@ -49,9 +49,9 @@ pub narrowed-requires-in-loop-k-3 : goal.narrowed-requires-in-loop-k-3
 narrowed-requires-in-loop-k-3 c =
     let k = c.loop-k.k in
     let inv = c.loop-k.invariant in
-    let e = below_at (5 * 2 ^ 27) c.args.even_im.now k (omega arith) c.requires.even_im_below in
-    let o = below_at (5 * 2 ^ 27) c.args.odd_re.now k (omega arith) c.requires.odd_re_below in
-    let q = below_at (5 * 2 ^ 27) c.args.odd_im.now k (omega arith) c.requires.odd_im_below in
+    let e = below_at (5 * 2 ^ 27) c.args.even_im.now k (omega arith) c.requires.below.even_im in
+    let o = below_at (5 * 2 ^ 27) c.args.odd_re.now k (omega arith) c.requires.below.odd_re in
+    let q = below_at (5 * 2 ^ 27) c.args.odd_im.now k (omega arith) c.requires.below.odd_im in
     let even = c.item_at-even.ensures.im ∙ inv.even_im_rest k (omega arith) in
     let odd_re = c.item_at-odd.ensures.re ∙ inv.odd_re_rest k (omega arith) in
     let odd_im = c.item_at-odd.ensures.im ∙ inv.odd_im_rest k (omega arith) in
@@ -153,34 +153,26 @@ returns-clause-differences c =
     (λ k inside. ap (λ z. paired (z, get_or c.loop-k.odd_im k (pos 0))) (c.loop-k.invariant.odd_re k (omega arith))
     ∙ ap (λ z. paired ((minus (at c.args.even_re.now c.args.even_im.now k, turned_back (direction (quarter 9) (k * (1024 / length c.args.even_re.now))) (at c.args.odd_re.now c.args.odd_im.now k))).re, z)) (c.loop-k.invariant.odd_im k (omega arith)))
 
-pub returns-clause-even_re_below : goal.returns-clause-even_re_below
-returns-clause-even_re_below c = λ limit b1 b2 b3 b4.
-    below_by (3 * limit) c.loop-k.even_re (λ k inside.
-    let e = below_at limit c.args.even_re.now k (omega arith) b1 in
-    let o = below_at limit c.args.odd_re.now k (omega arith) b3 in
-    let q = below_at limit c.args.odd_im.now k (omega arith) b4 in
-    omega (arith, e, o, q, c.loop-k.invariant.even_re_within k (omega arith)))
-
-pub returns-clause-even_im_below : goal.returns-clause-even_im_below
-returns-clause-even_im_below c = λ limit b1 b2 b3 b4.
-    below_by (3 * limit) c.loop-k.even_im (λ k inside.
-    let e = below_at limit c.args.even_im.now k (omega arith) b2 in
-    let o = below_at limit c.args.odd_re.now k (omega arith) b3 in
-    let q = below_at limit c.args.odd_im.now k (omega arith) b4 in
-    omega (arith, e, o, q, c.loop-k.invariant.even_im_within k (omega arith)))
-
-pub returns-clause-odd_re_below : goal.returns-clause-odd_re_below
-returns-clause-odd_re_below c = λ limit b1 b2 b3 b4.
-    below_by (3 * limit) c.loop-k.odd_re (λ k inside.
-    let e = below_at limit c.args.even_re.now k (omega arith) b1 in
-    let o = below_at limit c.args.odd_re.now k (omega arith) b3 in
-    let q = below_at limit c.args.odd_im.now k (omega arith) b4 in
-    omega (arith, e, o, q, c.loop-k.invariant.odd_re_within k (omega arith)))
-
-pub returns-clause-odd_im_below : goal.returns-clause-odd_im_below
-returns-clause-odd_im_below c = λ limit b1 b2 b3 b4.
-    below_by (3 * limit) c.loop-k.odd_im (λ k inside.
-    let e = below_at limit c.args.even_im.now k (omega arith) b2 in
-    let o = below_at limit c.args.odd_re.now k (omega arith) b3 in
-    let q = below_at limit c.args.odd_im.now k (omega arith) b4 in
-    omega (arith, e, o, q, c.loop-k.invariant.odd_im_within k (omega arith)))
+pub returns-clause-below : goal.returns-clause-below
+returns-clause-below c = λ limit old. record {
+  even_re = below_by (3 * limit) c.loop-k.even_re (λ k inside.
+      let e = below_at limit c.args.even_re.now k (omega arith) old.even_re in
+      let o = below_at limit c.args.odd_re.now k (omega arith) old.odd_re in
+      let q = below_at limit c.args.odd_im.now k (omega arith) old.odd_im in
+      omega (arith, e, o, q, c.loop-k.invariant.even_re_within k (omega arith)));
+  even_im = below_by (3 * limit) c.loop-k.even_im (λ k inside.
+      let e = below_at limit c.args.even_im.now k (omega arith) old.even_im in
+      let o = below_at limit c.args.odd_re.now k (omega arith) old.odd_re in
+      let q = below_at limit c.args.odd_im.now k (omega arith) old.odd_im in
+      omega (arith, e, o, q, c.loop-k.invariant.even_im_within k (omega arith)));
+  odd_re = below_by (3 * limit) c.loop-k.odd_re (λ k inside.
+      let e = below_at limit c.args.even_re.now k (omega arith) old.even_re in
+      let o = below_at limit c.args.odd_re.now k (omega arith) old.odd_re in
+      let q = below_at limit c.args.odd_im.now k (omega arith) old.odd_im in
+      omega (arith, e, o, q, c.loop-k.invariant.odd_re_within k (omega arith)));
+  odd_im = below_by (3 * limit) c.loop-k.odd_im (λ k inside.
+      let e = below_at limit c.args.even_im.now k (omega arith) old.even_im in
+      let o = below_at limit c.args.odd_re.now k (omega arith) old.odd_re in
+      let q = below_at limit c.args.odd_im.now k (omega arith) old.odd_im in
+      omega (arith, e, o, q, c.loop-k.invariant.odd_im_within k (omega arith)));
+}
