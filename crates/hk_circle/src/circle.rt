@@ -1,8 +1,7 @@
 // The circle, as it is read.
-ghost use Rattle.std.specs.Prelude.{◌≡◌, ◌<◌, ◌≤◌, ◌*◌, ◌/◌, ◌^◌, ℕ, nat_abs, pos, ◌≤ℤ◌, length, slice_index_or};
+ghost use Rattle.std.specs.Prelude.{◌≡◌, ◌<◌, ◌≤◌, ◌^◌, nat_abs, pos, ◌≤ℤ◌};
 ghost use Rattle.hk_spec_sound.specs.Circle.{quarter, cos_of, sin_of, hann_of};
-ghost use Rattle.hk_spec_sound.specs.Spectrum.{AreBelow};
-ghost use Rattle.hk_circle.specs.Tables.{IsTable, HasStages};
+ghost use Rattle.hk_circle.specs.Tables.{IsTable, HasStages, TurnsOf};
 
 use crate::quarter::Quarter;
 use crate::tables::{Tables, by_stages};
@@ -79,9 +78,7 @@ impl Circle {
     pub fn stage_cosines(&self, before: u32, half: usize) -> &[i32]
         requires few { before ≤ 10 }
         requires half { half ≡ 2 ^ before }
-        ensures len { length result.now ≡ half }
-        ensures value { (k : ℕ) → k < half → slice_index_or result.now k (pos 0) ≡ cos_of (quarter 9) (k * (1024 / half)) }
-        ensures below { AreBelow 32769 result.now }
+        ensures { TurnsOf (λ k. cos_of (quarter 9) k) half result.now }
     {
         &self.stage_cosines[half..2 * half]
     }
@@ -90,9 +87,7 @@ impl Circle {
     pub fn stage_sines(&self, before: u32, half: usize) -> &[i32]
         requires few { before ≤ 10 }
         requires half { half ≡ 2 ^ before }
-        ensures len { length result.now ≡ half }
-        ensures value { (k : ℕ) → k < half → slice_index_or result.now k (pos 0) ≡ sin_of (quarter 9) (k * (1024 / half)) }
-        ensures below { AreBelow 32769 result.now }
+        ensures { TurnsOf (λ k. sin_of (quarter 9) k) half result.now }
     {
         &self.stage_sines[half..2 * half]
     }
