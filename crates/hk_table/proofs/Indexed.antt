@@ -1,15 +1,13 @@
 -- A table beside a store: what is put into both, and taken out of both.
-use Rattle.std.proofs.Common.{◌≡◌, ℕ, zero, suc, ◌+◌, ◌<◌, ◌≤◌, List, [], ◌∷◌, length, length-append, map, set, get_or, replicate, refl, sym, ap, subst, ◌∙◌, arith, inl, inr, Option, Some, None, option_map}
-use Rattle.std.specs.List.{sum_by, flat_map}
+use Rattle.std.proofs.Common.{◌≡◌, ℕ, zero, suc, List, [], ◌∷◌, length, length-append, map, replicate, refl, sym, ap, subst, ◌∙◌, arith, Option, Some, None, option_map}
 use Rattle.std.specs.Option.{IsSome}
-use Rattle.std.proofs.lemmas.Bool.{cases_lt}
-use Rattle.std.proofs.lemmas.List.{length-map, map-set, get_or-map, get_or_past}
+use Rattle.std.proofs.lemmas.List.{map-set}
 use Rattle.std.proofs.lemmas.List.Concat.{flat_map-cons}
 use Rattle.std.proofs.lemmas.List.Sums.{sum_by-cons}
 use Rattle.hk_table.specs.Store as stores
 use Rattle.hk_table.specs.Store.{Store, Track, song_at, size_of, spare, with_song_at, without_song_at, new_store}
 use Rattle.hk_table.proofs.Extents.{get_map}
-use Rattle.hk_table.specs.Index.{Index, index_of, new_index, slot_at, words_in, all_words, room, with_words_at, without_words_at}
+use Rattle.hk_table.specs.Index.{index_of, new_index, slot_at, words_in, all_words, room, with_words_at, without_words_at}
 
 pub slot-indexed : (store : Store) (slot : ℕ) → slot_at (index_of store) slot ≡ option_map (λ (song : Track). song.words) (song_at store slot)
 slot-indexed store slot = get_map (λ (song : Track). song.words) store.slots slot

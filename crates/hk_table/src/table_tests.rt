@@ -7,7 +7,14 @@ use std::sync::ledger::{Blank, Ledger};
 use std::test::Fail;
 
 // Whether a walk for a word gives these positions of a slot and no other place: every `step`th from `first` on, below 256.
-fn gives<L: Ledger>(table: &Table, word: u32, slot: u32, first: usize, step: usize, blank: Blank) -> bool
+fn gives<L: Ledger>(
+    table: &Table,
+    word: u32,
+    slot: u32,
+    first: usize,
+    step: usize,
+    blank: Blank,
+) -> bool
     requires name { blank.name ≡ L.name }
     requires parts { blank.parts ≡ L.parts }
     requires some { 0 < L.parts }

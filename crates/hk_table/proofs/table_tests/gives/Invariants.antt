@@ -1,4 +1,4 @@
-use Rattle.std.proofs.Common.{◌≡◌, ◌<◌, length}
+use Rattle.std.proofs.Common.{length}
 use Rattle.hk_table.proofs.table_tests.gives.Given as goal
 
 abbrev pub decreases-loop-place : goal.decreases-loop-place
