@@ -2,12 +2,13 @@
 use Rattle.std.proofs.Common.{◌≤◌, ℕ, List, [], ◌∷◌, ◌++◌, arith}
 use Rattle.hk_spec_matching.specs.Catalogue.{Rise}
 
-rise_from : (a b : ℕ) (vs : List ℕ) (to : ℕ) → a ≤ b → Rise b vs to → Rise a vs to
-rise_from a b [] to less rise = omega (arith, less, rise)
-rise_from a b (v ∷ vs) to less rise = (omega (arith, less, rise.0), rise.1)
+-- from a lower version they rise too
+pub Rise-from : (a b : ℕ) (vs : List ℕ) (to : ℕ) → a ≤ b → Rise b vs to → Rise a vs to
+Rise-from a b [] to less rise = omega (arith, less, rise)
+Rise-from a b (v ∷ vs) to less rise = (omega (arith, less, rise.0), rise.1)
 
 pub Rise-append : (a b c : ℕ) (vs ws : List ℕ) → Rise a vs b → Rise b ws c → Rise a (vs ++ ws) c
-Rise-append a b c [] ws first second = rise_from a b ws c first second
+Rise-append a b c [] ws first second = Rise-from a b ws c first second
 Rise-append a b c (v ∷ vs) ws first second = (first.0, Rise-append v b c vs ws first.1 second)
 
 -- they end no lower than they begin

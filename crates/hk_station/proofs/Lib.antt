@@ -1,3 +1,5 @@
 pub mod Feeding
 pub mod Hearing
 pub mod Outcomes
+pub mod UsedBytes
+pub mod SinceStart
