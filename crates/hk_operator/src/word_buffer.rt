@@ -1,6 +1,6 @@
-// Words one after another, as many as there is room for.
+// Buffered one after another, as many as there is room for.
 ghost use Rattle.std.specs.Prelude.{◌≡◌, ◌≤◌, ◌^◌, min, length, IfOk};
-ghost use Rattle.hk_operator.specs.Kept.{no_words, cleared, with_word};
+ghost use Rattle.hk_operator.specs.WordBuffer.{no_words, cleared, with_word};
 
 use hk_base::NoMemory;
 use std::alloc::Global;
@@ -8,33 +8,33 @@ use std::marker::Model;
 
 /// The first words, as many as there is room for, and how many came in all.
 #[derive(Drop)]
-pub struct Kept {
+pub struct WordBuffer {
     words: Vec<u32>,
     count: u64,
     room: u32,
 }
 
-impl Model for Kept {
-    ghost use Rattle.hk_operator.specs.Kept.{Words};
+impl Model for WordBuffer {
+    ghost use Rattle.hk_operator.specs.WordBuffer.{Buffered};
 
-    ghost Value = { Words };
+    ghost Value = { Buffered };
 
-    ghost use Rattle.hk_operator.specs.Inside.{as_words, IsWithin};
+    ghost use Rattle.hk_operator.specs.Inside.{as_words, IsBuffer};
 
     ghost view = { as_words };
 
-    ghost invariant = { IsWithin };
+    ghost invariant = { IsBuffer };
 }
 
-impl Kept {
+impl WordBuffer {
     /// Nothing yet, with room for 256 to 2^24 words, which is taken at once.
-    pub fn new(alloc: Global, room: u32) -> Result<Kept, NoMemory>
+    pub fn new(alloc: Global, room: u32) -> Result<WordBuffer, NoMemory>
         requires enough { 256 ≤ room }
         requires most { room ≤ 2 ^ 24 }
         ensures { IfOk result (λ k. k ≡ no_words room) }
     {
         match Vec::with_capacity(alloc, room as usize) {
-            Ok(words) => Ok(Kept {
+            Ok(words) => Ok(WordBuffer {
                 words,
                 count: 0,
                 room,
