@@ -10,7 +10,8 @@ use Rattle.hk_spec_streams.specs.Pieces.{completed}
 use Rattle.hk_spec_streams.specs.Operator.{Command, operator_met, commands}
 use Rattle.hk_spec_streams.proofs.Completed.{completed-more}
 use Rattle.hk_spec_streams.proofs.GrowingCommands.{whole_command, commands-append}
-use Rattle.hk_spec_runs.specs.Desk.{Rules, Desk}
+use Rattle.hk_spec_runs.specs.Desk.{Desk}
+use Rattle.hk_spec_settings.specs.Settings.{Rules}
 use Rattle.hk_spec_runs.specs.Replay.{Clerk}
 use Rattle.hk_operator_wire.specs.declared.item.OpItem.TheVariants as items
 use Rattle.hk_operator_wire.specs.Items.{last_command}

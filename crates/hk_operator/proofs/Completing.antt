@@ -1,5 +1,5 @@
 -- A whole command, by its kind.
-use Rattle.std.proofs.Common.{◌≡◌, ℕ, List, [], ◌∷◌, length, refl, sym, ◌∙◌, ap, subst, arith, append-nil, Option, Some, None, inl}
+use Rattle.std.proofs.Common.{◌≡◌, ℕ, List, [], ◌∷◌, length, refl, sym, ◌∙◌, ap, subst, append-nil, Option, Some, None, option_map, inl}
 use Rattle.hk_base.specs.declared.plain.Form.{Form}
 use Rattle.hk_base.specs.declared.plain.What.{What}
 use Rattle.hk_base.specs.declared.plain.What.TheVariants.{Refused}
@@ -7,12 +7,17 @@ use Rattle.hk_base.specs.declared.plain.What.TheVariants as whats
 use Rattle.hk_base.specs.declared.plain.Reason.TheVariants.{NoSongOpen}
 use Rattle.hk_base.specs.declared.plain.Reason.TheVariants as reasons
 use Rattle.hk_spec_streams.specs.Pieces.{first_that_holds}
-use Rattle.hk_spec_streams.specs.Operator.{Command, AddWords, OpenSong, Audio, Close, Withdraw, Publish, ADD_WORDS, OPEN_SONG, AUDIO, CLOSE, WITHDRAW, PUBLISH}
+use Rattle.hk_spec_streams.specs.Operator.{Command, AddWords, OpenSong, Audio, Close, Withdraw}
+use Rattle.hk_spec_streams.specs.Commands as kinds
+use Rattle.hk_spec_streams.specs.Commands.{row_of}
 use Rattle.hk_spec_matching.specs.Catalogue as edits
-use Rattle.hk_spec_runs.specs.Desk.{Rules, Desk, Recording, present, add_refusals, refusals, with_edit, song_of, recorded_words, IsReply, answer, after}
+use Rattle.hk_spec_runs.specs.Desk.{Desk, Recording, present, refusals, with_edit, added_song, recorded_words, IsReply, answer, after}
+use Rattle.hk_spec_settings.specs.Refusals.{add_refusals}
+use Rattle.hk_spec_settings.specs.Settings.{Rules}
 use Rattle.hk_block.specs.Looker.{ShelfView}
-use Rattle.hk_operator.specs.Kept.{Words, Keeps}
-use Rattle.hk_operator.specs.Draft.{Drafts}
+use Rattle.hk_operator.specs.WordBuffer.{Buffered, Keeps}
+use Rattle.hk_operator.specs.Draft.{Drafts, DraftsAs}
+use Rattle.hk_operator.specs.declared.draft.Draft.{Draft}
 use Rattle.hk_operator.specs.Sound.{IsFixed, IsAllowedForm, IsRecording, Hears, sound_of}
 use Rattle.hk_operator.specs.Desk.{IsAtDesk, IsDecided}
 use Rattle.hk_operator.specs.Obeying.{IsDesk, IsAnswered}
@@ -20,14 +25,13 @@ use Rattle.hk_operator.specs.declared.done.Done.{Done}
 use Rattle.hk_operator.specs.declared.done.Done.TheVariants.{Reply, Publish as Published}
 use Rattle.hk_operator.specs.declared.operator.Operator.{Operator}
 use Rattle.hk_operator.specs.declared.recorder.Recorder.{Recorder}
-use Rattle.hk_operator.proofs.Drafting.{two_differ}
 use Rattle.hk_operator.proofs.Deciding.{decided_as, add_replied, withdraw_replied, close_replied, close_none}
 
 -- what staging a song of these kept words decides
-abbrev pub Adds : ShelfView → ℕ → Words → ShelfView → What → Type 0
+abbrev pub Adds : ShelfView → ℕ → Buffered → ShelfView → What → Type 0
 Adds view id kept view' what = (rules : Rules) (desk : Desk) (all : List ℕ) → IsFixed rules → IsAtDesk rules view desk → Keeps kept all → kept.room ≡ rules.limits.positions
     → IsDecided (first_that_holds (add_refusals rules (present rules desk) id (length all))) what (IsAtDesk rules view' desk)
-    (IsAtDesk rules view' (with_edit rules desk (edits.Add id (song_of rules all))))
+    (IsAtDesk rules view' (with_edit rules desk (edits.Add id (added_song rules all))))
 
 abbrev pub Withdraws : ShelfView → ℕ → ShelfView → What → Type 0
 Withdraws view id view' what = (rules : Rules) (desk : Desk) → IsFixed rules → IsAtDesk rules view desk
@@ -84,15 +88,15 @@ module _ (rules : Rules) (op : Operator) (view : ShelfView) (desk : Desk) where
         let same_id : id ≡ song.id = id_in id song.id (sym is ∙ heard.id) in
         close_replied rules desk (λ now. IsDesk rules op' view' now []) song what same
         (decided_as _ _ what
-        (IsAtDesk rules view' desk) (IsAtDesk rules view' (with_edit rules desk (edits.Add song.id (song_of rules (recorded_words rules song)))))
+        (IsAtDesk rules view' desk) (IsAtDesk rules view' (with_edit rules desk (edits.Add song.id (added_song rules (recorded_words rules song)))))
         (IsDesk rules op' view' (record desk { song = None }) [])
-        (IsDesk rules op' view' (record (with_edit rules desk (edits.Add song.id (song_of rules (recorded_words rules song)))) { song = None }) [])
+        (IsDesk rules op' view' (record (with_edit rules desk (edits.Add song.id (added_song rules (recorded_words rules song)))) { song = None }) [])
         refl
         (λ at. closed_with (record desk { song = None }) refl (song_gone rules view' desk at))
-        (λ none at. closed_with (record (with_edit rules desk (edits.Add song.id (song_of rules (recorded_words rules song)))) { song = None }) refl
-        (song_gone rules view' (with_edit rules desk (edits.Add song.id (song_of rules (recorded_words rules song)))) at))
+        (λ none at. closed_with (record (with_edit rules desk (edits.Add song.id (added_song rules (recorded_words rules song)))) { song = None }) refl
+        (song_gone rules view' (with_edit rules desk (edits.Add song.id (added_song rules (recorded_words rules song)))) at))
         (subst (λ i. IsDecided (first_that_holds (add_refusals rules (present rules desk) i (length (recorded_words rules song)))) what (IsAtDesk rules view' desk)
-        (IsAtDesk rules view' (with_edit rules desk (edits.Add i (song_of rules (recorded_words rules song)))))) same_id
+        (IsAtDesk rules view' (with_edit rules desk (edits.Add i (added_song rules (recorded_words rules song)))))) same_id
         (adds rules desk (recorded_words rules song) h.fixed h.shelf heard.words h.song_room)))
       where
         id_in : (i j : ℕ) → Some i ≡ Some j → i ≡ j
@@ -118,78 +122,62 @@ module _ (rules : Rules) (op : Operator) (view : ShelfView) (desk : Desk) where
     abbrev Answers : Command → What → Type 0
     Answers command what = IsAnswered rules desk number (command ∷ []) (Reply (record { number = number; what = what })) Leaves
 
-    pub add_completes : (what : What) → op'.recorder ≡ op.recorder → op.draft.kind ≡ ADD_WORDS → Adds view op.draft.id op.draft.words view' what
-        → (command : Command) → IsDesk rules op view desk (sound_of command) → Drafts op.draft command → Answers command what
-    add_completes what same kind adds (AddWords id words) h drafts =
-        let leaves : (now : Desk) → now.song ≡ desk.song → IsAtDesk rules view' now → IsDesk rules op' view' now [] = λ now song at.
+    -- what a reply leaves, with the same recorder
+    leaves : IsDesk rules op view desk [] → op'.recorder ≡ op.recorder → (now : Desk) → now.song ≡ desk.song → IsAtDesk rules view' now → IsDesk rules op' view' now []
+    leaves h same now song at =
         left_with [] h op' view' now [] room (ap (λ (r : Recorder). r.words.room) same)
-        (subst (λ (r : Recorder). IsRecording rules r now.song []) (sym same) (subst (λ o. IsRecording rules op.recorder o []) (sym song) h.recording)) at in
-        let both = add_replied rules desk Leaves op.draft.id words what
-        (decided_as _ _ what (IsAtDesk rules view' desk) (IsAtDesk rules view' (with_edit rules desk (edits.Add op.draft.id (song_of rules words))))
-        (IsDesk rules op' view' desk []) (IsDesk rules op' view' (with_edit rules desk (edits.Add op.draft.id (song_of rules words))) []) refl
-        (leaves desk refl) (λ none at. leaves (with_edit rules desk (edits.Add op.draft.id (song_of rules words))) refl at)
-        (adds rules desk words h.fixed h.shelf drafts.2 h.room)) in
-        let named = subst (λ i. IsReply rules desk (AddWords i words) what × Leaves (after rules desk (AddWords i words) what)) drafts.1 both in
-        (refl, refl, refl, named.0, named.1)
-    add_completes what same kind adds (OpenSong id form) h drafts = absurd (two_differ ADD_WORDS OPEN_SONG op.draft.kind kind drafts.0 (λ e. omega (arith, e)))
-    add_completes what same kind adds (Audio bytes) h drafts = absurd (two_differ ADD_WORDS AUDIO op.draft.kind kind drafts (λ e. omega (arith, e)))
-    add_completes what same kind adds Close h drafts = absurd (two_differ ADD_WORDS CLOSE op.draft.kind kind drafts (λ e. omega (arith, e)))
-    add_completes what same kind adds (Withdraw id) h drafts = absurd (two_differ ADD_WORDS WITHDRAW op.draft.kind kind drafts.0 (λ e. omega (arith, e)))
-    add_completes what same kind adds Publish h drafts = absurd (two_differ ADD_WORDS PUBLISH op.draft.kind kind drafts (λ e. omega (arith, e)))
+        (subst (λ (r : Recorder). IsRecording rules r now.song []) (sym same) (subst (λ o. IsRecording rules op.recorder o []) (sym song) h.recording)) at
 
-    pub withdraw_completes : (what : What) → op'.recorder ≡ op.recorder → op.draft.kind ≡ WITHDRAW → Withdraws view op.draft.id view' what
-        → (command : Command) → IsDesk rules op view desk (sound_of command) → Drafts op.draft command → Answers command what
-    withdraw_completes what same kind goes (Withdraw id) h drafts =
-        let leaves : (now : Desk) → now.song ≡ desk.song → IsAtDesk rules view' now → IsDesk rules op' view' now [] = λ now song at.
-        left_with [] h op' view' now [] room (ap (λ (r : Recorder). r.words.room) same)
-        (subst (λ (r : Recorder). IsRecording rules r now.song []) (sym same) (subst (λ o. IsRecording rules op.recorder o []) (sym song) h.recording)) at in
+    -- a command that the draft is, by other words
+    as_drafted : (command drafted : Command) (what : What) → command ≡ drafted → IsDesk rules op view desk (sound_of command)
+        → (IsDesk rules op view desk (sound_of drafted) → Answers drafted what) → Answers command what
+    as_drafted command drafted what is h completes =
+        subst (λ c. Answers c what) (sym is) (completes (subst (λ c. IsDesk rules op view desk (sound_of c)) is h))
+
+    pub add_completes : (what : What) → op'.recorder ≡ op.recorder → Adds view op.draft.id op.draft.words view' what
+        → (command : Command) → IsDesk rules op view desk (sound_of command) → DraftsAs kinds.AddWords op.draft command → Answers command what
+    add_completes what same adds command h drafts =
+        let words : List ℕ = drafts.0 in
+        as_drafted command (AddWords op.draft.id words) what drafts.1 h (λ h.
+        let both = add_replied rules desk Leaves op.draft.id words what
+        (decided_as _ _ what (IsAtDesk rules view' desk) (IsAtDesk rules view' (with_edit rules desk (edits.Add op.draft.id (added_song rules words))))
+        (IsDesk rules op' view' desk []) (IsDesk rules op' view' (with_edit rules desk (edits.Add op.draft.id (added_song rules words))) []) refl
+        (leaves h same desk refl) (λ none at. leaves h same (with_edit rules desk (edits.Add op.draft.id (added_song rules words))) refl at)
+        (adds rules desk words h.fixed h.shelf drafts.2 h.room)) in
+        (refl, refl, refl, both.0, both.1))
+
+    pub withdraw_completes : (what : What) → op'.recorder ≡ op.recorder → Withdraws view op.draft.id view' what
+        → (command : Command) → IsDesk rules op view desk (sound_of command) → DraftsAs kinds.Withdraw op.draft command → Answers command what
+    withdraw_completes what same goes command h drafts = as_drafted command (Withdraw op.draft.id) what drafts h (λ h.
         let both = withdraw_replied rules desk Leaves op.draft.id what
         (decided_as _ _ what (IsAtDesk rules view' desk) (IsAtDesk rules view' (with_edit rules desk (edits.Withdraw op.draft.id)))
         (IsDesk rules op' view' desk []) (IsDesk rules op' view' (with_edit rules desk (edits.Withdraw op.draft.id)) []) refl
-        (leaves desk refl) (λ none at. leaves (with_edit rules desk (edits.Withdraw op.draft.id)) refl at)
+        (leaves h same desk refl) (λ none at. leaves h same (with_edit rules desk (edits.Withdraw op.draft.id)) refl at)
         (goes rules desk h.fixed h.shelf)) in
-        let named = subst (λ i. IsReply rules desk (Withdraw i) what × Leaves (after rules desk (Withdraw i) what)) drafts.1 both in
-        (refl, refl, refl, named.0, named.1)
-    withdraw_completes what same kind goes (AddWords id words) h drafts = absurd (two_differ WITHDRAW ADD_WORDS op.draft.kind kind drafts.0 (λ e. omega (arith, e)))
-    withdraw_completes what same kind goes (OpenSong id form) h drafts = absurd (two_differ WITHDRAW OPEN_SONG op.draft.kind kind drafts.0 (λ e. omega (arith, e)))
-    withdraw_completes what same kind goes (Audio bytes) h drafts = absurd (two_differ WITHDRAW AUDIO op.draft.kind kind drafts (λ e. omega (arith, e)))
-    withdraw_completes what same kind goes Close h drafts = absurd (two_differ WITHDRAW CLOSE op.draft.kind kind drafts (λ e. omega (arith, e)))
-    withdraw_completes what same kind goes Publish h drafts = absurd (two_differ WITHDRAW PUBLISH op.draft.kind kind drafts (λ e. omega (arith, e)))
+        (refl, refl, refl, both.0, both.1))
 
-    pub close_completes : (what : What) → op.draft.kind ≡ CLOSE → (IsDesk rules op view desk [] → IsReply rules desk Close what × Leaves (after rules desk Close what))
-        → (command : Command) → IsDesk rules op view desk (sound_of command) → Drafts op.draft command → Answers command what
-    close_completes what kind closes Close h drafts = let both = closes h in (refl, refl, refl, both.0, both.1)
-    close_completes what kind closes (AddWords id words) h drafts = absurd (two_differ CLOSE ADD_WORDS op.draft.kind kind drafts.0 (λ e. omega (arith, e)))
-    close_completes what kind closes (OpenSong id form) h drafts = absurd (two_differ CLOSE OPEN_SONG op.draft.kind kind drafts.0 (λ e. omega (arith, e)))
-    close_completes what kind closes (Audio bytes) h drafts = absurd (two_differ CLOSE AUDIO op.draft.kind kind drafts (λ e. omega (arith, e)))
-    close_completes what kind closes (Withdraw id) h drafts = absurd (two_differ CLOSE WITHDRAW op.draft.kind kind drafts.0 (λ e. omega (arith, e)))
-    close_completes what kind closes Publish h drafts = absurd (two_differ CLOSE PUBLISH op.draft.kind kind drafts (λ e. omega (arith, e)))
+    pub close_completes : (what : What) → (IsDesk rules op view desk [] → IsReply rules desk Close what × Leaves (after rules desk Close what))
+        → (command : Command) → IsDesk rules op view desk (sound_of command) → DraftsAs kinds.Close op.draft command → Answers command what
+    close_completes what closes command h drafts = as_drafted command Close what drafts h (λ h. let both = closes h in (refl, refl, refl, both.0, both.1))
 
-    pub open_completes : (what : What) → op.draft.kind ≡ OPEN_SONG → view' ≡ view → op'.recorder.words.room ≡ op.recorder.words.room
+    pub open_completes : (what : What) → view' ≡ view → op'.recorder.words.room ≡ op.recorder.words.room
         → (IsRecording rules op.recorder desk.song [] → what ≡ answer rules desk (OpenSong op.draft.id op.draft.form))
         → (IsFixed rules → IsAllowedForm op.draft.form → IsRecording rules op.recorder desk.song []
         → IsRecording rules op'.recorder (after rules desk (OpenSong op.draft.id op.draft.form) what).song [])
-        → (command : Command) → IsDesk rules op view desk (sound_of command) → Drafts op.draft command → Answers command what
-    open_completes what kind same song_room answers opens (OpenSong id form) h drafts =
-        let allowed : IsAllowedForm op.draft.form = subst IsAllowedForm (sym drafts.2) drafts.3 in
+        → (command : Command) → IsDesk rules op view desk (sound_of command) → DraftsAs kinds.OpenSong op.draft command → Answers command what
+    open_completes what same song_room answers opens command h drafts = as_drafted command (OpenSong op.draft.id op.draft.form) what drafts.0 h (λ h.
         let at : IsAtDesk rules view' (after rules desk (OpenSong op.draft.id op.draft.form) what) =
         subst (λ (v : ShelfView). IsAtDesk rules v (after rules desk (OpenSong op.draft.id op.draft.form) what)) (sym same) (open_at rules view desk op.draft.id op.draft.form what h.shelf) in
-        let left = left_with [] h op' view' (after rules desk (OpenSong op.draft.id op.draft.form) what) [] room song_room (opens h.fixed allowed h.recording) at in
-        let both : IsReply rules desk (OpenSong op.draft.id op.draft.form) what × Leaves (after rules desk (OpenSong op.draft.id op.draft.form) what) = (inl (answers h.recording), left) in
-        let named = subst (λ f. IsReply rules desk (OpenSong id f) what × Leaves (after rules desk (OpenSong id f) what)) drafts.2
-        (subst (λ i. IsReply rules desk (OpenSong i op.draft.form) what × Leaves (after rules desk (OpenSong i op.draft.form) what)) drafts.1 both) in
-        (refl, refl, refl, named.0, named.1)
-    open_completes what kind same song_room answers opens (AddWords id words) h drafts = absurd (two_differ OPEN_SONG ADD_WORDS op.draft.kind kind drafts.0 (λ e. omega (arith, e)))
-    open_completes what kind same song_room answers opens (Audio bytes) h drafts = absurd (two_differ OPEN_SONG AUDIO op.draft.kind kind drafts (λ e. omega (arith, e)))
-    open_completes what kind same song_room answers opens Close h drafts = absurd (two_differ OPEN_SONG CLOSE op.draft.kind kind drafts (λ e. omega (arith, e)))
-    open_completes what kind same song_room answers opens (Withdraw id) h drafts = absurd (two_differ OPEN_SONG WITHDRAW op.draft.kind kind drafts.0 (λ e. omega (arith, e)))
-    open_completes what kind same song_room answers opens Publish h drafts = absurd (two_differ OPEN_SONG PUBLISH op.draft.kind kind drafts (λ e. omega (arith, e)))
+        let left = left_with [] h op' view' (after rules desk (OpenSong op.draft.id op.draft.form) what) [] room song_room (opens h.fixed drafts.1 h.recording) at in
+        (refl, refl, refl, inl (answers h.recording), left))
 
-    pub audio_completes : (what : What) → op.draft.kind ≡ AUDIO → view' ≡ view → op'.recorder ≡ op.recorder
+    pub audio_completes : (what : What) → view' ≡ view → op'.recorder ≡ op.recorder
         → ((sound : List ℕ) → IsRecording rules op.recorder desk.song sound → what ≡ answer rules desk (Audio sound))
         → ((sound : List ℕ) → IsRecording rules op.recorder desk.song sound → IsRecording rules op.recorder (after rules desk (Audio sound) what).song [])
-        → (command : Command) → IsDesk rules op view desk (sound_of command) → Drafts op.draft command → Answers command what
-    audio_completes what kind same same_recorder answers joins (Audio bytes) h drafts =
+        → (command : Command) → IsDesk rules op view desk (sound_of command) → DraftsAs kinds.Audio op.draft command → Answers command what
+    audio_completes what same same_recorder answers joins command h drafts =
+        let bytes : List ℕ = drafts.0 in
+        as_drafted command (Audio bytes) what drafts.1 h (λ h.
         let at : IsAtDesk rules view' (after rules desk (Audio bytes) what) =
         subst (λ (v : ShelfView). IsAtDesk rules v (after rules desk (Audio bytes) what)) (sym same) (audio_at rules view desk bytes what h.shelf) in (
           refl,
@@ -198,28 +186,30 @@ module _ (rules : Rules) (op : Operator) (view : ShelfView) (desk : Desk) where
           inl (answers bytes h.recording),
           left_with bytes h op' view' (after rules desk (Audio bytes) what) [] room (ap (λ (r : Recorder). r.words.room) same_recorder)
               (subst (λ (r : Recorder). IsRecording rules r (after rules desk (Audio bytes) what).song []) (sym same_recorder) (joins bytes h.recording)) at,
-        )
-    audio_completes what kind same same_recorder answers joins (AddWords id words) h drafts = absurd (two_differ AUDIO ADD_WORDS op.draft.kind kind drafts.0 (λ e. omega (arith, e)))
-    audio_completes what kind same same_recorder answers joins (OpenSong id form) h drafts = absurd (two_differ AUDIO OPEN_SONG op.draft.kind kind drafts.0 (λ e. omega (arith, e)))
-    audio_completes what kind same same_recorder answers joins Close h drafts = absurd (two_differ AUDIO CLOSE op.draft.kind kind drafts (λ e. omega (arith, e)))
-    audio_completes what kind same same_recorder answers joins (Withdraw id) h drafts = absurd (two_differ AUDIO WITHDRAW op.draft.kind kind drafts.0 (λ e. omega (arith, e)))
-    audio_completes what kind same same_recorder answers joins Publish h drafts = absurd (two_differ AUDIO PUBLISH op.draft.kind kind drafts (λ e. omega (arith, e)))
+        ))
 
-    pub publish_completes : view' ≡ view → op'.recorder ≡ op.recorder → (op.draft.kind ≡ ADD_WORDS → ⊥) → (op.draft.kind ≡ OPEN_SONG → ⊥) → (op.draft.kind ≡ AUDIO → ⊥)
-        → (op.draft.kind ≡ CLOSE → ⊥) → (op.draft.kind ≡ WITHDRAW → ⊥)
-        → (command : Command) → IsDesk rules op view desk (sound_of command) → Drafts op.draft command → IsAnswered rules desk number (command ∷ []) (Published number) Leaves
-    publish_completes same same_recorder add opens audio close withdraw Publish h drafts = (
-      refl,
-      refl,
-      refl,
-      left_with [] h op' view' desk [] room (ap (λ (r : Recorder). r.words.room) same_recorder)
-          (subst (λ (r : Recorder). IsRecording rules r desk.song []) (sym same_recorder) h.recording) (subst (λ (v : ShelfView). IsAtDesk rules v desk) (sym same) h.shelf),
-    )
-    publish_completes same same_recorder add opens audio close withdraw (AddWords id words) h drafts = absurd (add drafts.0)
-    publish_completes same same_recorder add opens audio close withdraw (OpenSong id form) h drafts = absurd (opens drafts.0)
-    publish_completes same same_recorder add opens audio close withdraw (Audio bytes) h drafts = absurd (audio drafts)
-    publish_completes same same_recorder add opens audio close withdraw Close h drafts = absurd (close drafts)
-    publish_completes same same_recorder add opens audio close withdraw (Withdraw id) h drafts = absurd (withdraw drafts.0)
+    pub publish_completes : view' ≡ view → op'.recorder ≡ op.recorder
+        → (command : Command) → IsDesk rules op view desk (sound_of command) → DraftsAs kinds.Publish op.draft command → IsAnswered rules desk number (command ∷ []) (Published number) Leaves
+    publish_completes same same_recorder command h is =
+        let quiet = subst (λ c. IsDesk rules op view desk (sound_of c)) is h in
+        subst (λ c. IsAnswered rules desk number (c ∷ []) (Published number) Leaves) (sym is)
+        (refl, refl, refl, leaves quiet same_recorder desk refl (subst (λ (v : ShelfView). IsAtDesk rules v desk) (sym same) quiet.shelf))
+
+-- the draft is that of a command of the kind whose number it has
+pub as_kind : (d : Draft) (kind : kinds.Kind) (command : Command) → Some kind ≡ option_map (λ (row : kinds.Row). row.kind) (row_of d.kind) → Drafts d command → DraftsAs kind d command
+as_kind d kind command numbered drafts =
+    let same : Some drafts.row.kind ≡ Some kind = sym (numbered ∙ ap (option_map (λ (row : kinds.Row). row.kind)) drafts.is) in
+    subst (λ k. DraftsAs k d command) (one drafts.row.kind kind same) drafts.as_kind
+  where
+    one : (a b : kinds.Kind) → Some a ≡ Some b → a ≡ b
+    one a b is = cc
+
+-- a whole command has a kind
+pub has_kind : (d : Draft) (command : Command) → None ≡ option_map (λ (row : kinds.Row). row.kind) (row_of d.kind) → Drafts d command → ⊥
+has_kind d command none drafts = some drafts.row.kind (none ∙ ap (option_map (λ (row : kinds.Row). row.kind)) drafts.is)
+  where
+    some : (k : kinds.Kind) → None ≡ Some k → ⊥
+    some k is = cc
 
 -- a reply that was given
 pub answered_with : (rules : Rules) (desk : Desk) (command : Command) (n m : ℕ) (what : What) (done : Done) (Leaves : Desk → Type 0) → done ≡ Reply (record { number = n; what = what }) → n ≡ m

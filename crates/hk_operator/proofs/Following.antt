@@ -12,28 +12,29 @@ use Rattle.hk_spec_streams.specs.Pieces.{completed, pieces_within}
 use Rattle.hk_spec_streams.specs.Grammar.{packets, ends_at_start}
 use Rattle.hk_spec_streams.specs.Operator.{Command, command_for, operator_grammar, operator_met, operator_fault, operator_wrong, commands}
 use Rattle.hk_spec_streams.proofs.GrowingCommands.{whole_command, commands-append}
-use Rattle.hk_spec_runs.specs.Desk.{Rules, Desk}
+use Rattle.hk_spec_runs.specs.Desk.{Desk}
+use Rattle.hk_spec_settings.specs.Settings.{Rules}
 use Rattle.hk_spec_runs.specs.Replay.{Clerk, operator_end_of}
 use Rattle.hk_block.specs.Looker.{ShelfView}
 use Rattle.hk_operator_wire.specs.declared.wire.OpWire.{OpWire}
 use Rattle.hk_operator_wire.specs.declared.item.OpItem.{OpItem}
 use Rattle.hk_operator_wire.specs.declared.item.OpItem.TheVariants as items
-use Rattle.hk_operator_wire.specs.Items.{last_command, item_of, op_item_at, brought, is_whole_command}
-use Rattle.hk_operator_wire.specs.Heads.{head_of, head_fault}
-use Rattle.hk_operator_wire.specs.Taken.{HasTaken, limit_of, fault_met}
-use Rattle.hk_operator_wire.proofs.Reading.{next_bytes, last_command-next, in_hello, hello_stays, packet_met, too_long}
-use Rattle.hk_operator_wire.proofs.Taking.{fault_is, item_at_fault, item_at_none}
-use Rattle.hk_operator.specs.Parts.{part_of, ends}
+use Rattle.hk_operator_wire.specs.declared.item.Part.{Part}
+use Rattle.hk_operator_wire.specs.declared.item.Part.TheVariants as parts
+use Rattle.hk_operator_wire.specs.Items.{last_command, item_of, op_item_at, brought, is_whole_command, part_of, ends}
+use Rattle.hk_operator_wire.specs.Taken.{HasTaken, IsInOrder, Pushes, limit_of, fault_met}
+use Rattle.hk_operator_wire.proofs.Ending.{part-joined, ends-joined, joined-no_fault}
+use Rattle.hk_operator_wire.proofs.Reading.{next_bytes, last_command-next, in_hello, hello_stays, too_long}
+use Rattle.hk_operator_wire.proofs.Taking.{fault_is, item_at_fault, item_at_none, taken_in_order}
 use Rattle.hk_operator.specs.Draft.{IsDraft, Drafts, draft_after}
 use Rattle.hk_operator.specs.Sound.{IsRecording, sound_in, sound_of, sound_there, sound_ahead}
-use Rattle.hk_operator.specs.Obeying.{Pushes, IsInOrder, HasObeyed, HasMet, IsAtEnd, IsObeying, IsDesk, clerk_after, new_commands, end_in, IsAnswered, next_number, counted}
+use Rattle.hk_operator.specs.Obeying.{HasObeyed, HasMet, IsAtEnd, IsObeying, IsDesk, clerk_after, new_commands, end_in, IsAnswered, next_number, counted}
 use Rattle.hk_operator.specs.declared.done.Done.{Done}
 use Rattle.hk_operator.specs.declared.done.Done.TheVariants.{More, Over}
 use Rattle.hk_operator.specs.declared.operator.Operator.{Operator}
 use Rattle.hk_operator.specs.declared.draft.Draft.{Draft}
 use Rattle.hk_operator.specs.declared.recorder.Recorder.{Recorder}
-use Rattle.hk_operator.proofs.Coming.{next_in_order, nothing_in_order}
-use Rattle.hk_operator.proofs.Drafting.{part_is, ends_is, not_fault, next_draft, no_draft, room_stays}
+use Rattle.hk_operator.proofs.Drafting.{next_draft, no_draft, room_stays}
 use Rattle.hk_operator.proofs.SoundThere.{next_sound}
 use Rattle.hk_operator.proofs.WholeCommands.{IsWhole, whole_is}
 use Rattle.hk_operator.proofs.ClerkAfter.{maybe, same_fault_in, answered_as, no_end, over_stays, fault_ends, byte_used, commands_by, commands_now}
@@ -47,13 +48,13 @@ module _ (rules : Rules) (op : Operator) (view : ShelfView) (clerk : Clerk) (des
   bytes = last_command (clerk.used ++ b ∷ [])
 
   limit_now : limit_of wire ≡ rules.bytes
-  limit_now = pushes.limit ∙ h.limit
+  limit_now = pushes.limit_stays ∙ h.limit
 
   at_end : (end : Option OpEnd) → clerk.end ≡ end → IsAtEnd rules op clerk.used desk.song end
   at_end end is = subst (IsAtEnd rules op clerk.used desk.song) is h.stream
 
   item_at : HasObeyed rules op clerk.used desk.song → item ≡ op_item_at rules.bytes used
-  item_at obeyed = pushes.item_is clerk.used obeyed.taken ∙ ap (λ n. op_item_at n used) h.limit
+  item_at obeyed = pushes.item clerk.used obeyed.taken ∙ ap (λ n. op_item_at n used) h.limit
 
   in_order : HasObeyed rules op clerk.used desk.song → operator_met rules.bytes used ≡ None → item ≡ item_of bytes
   in_order obeyed none = item_at obeyed ∙ item_at_none rules.bytes used (fault_is rules.bytes clerk.used b obeyed.no_fault ∙ none)
@@ -88,11 +89,13 @@ module _ (rules : Rules) (op : Operator) (view : ShelfView) (clerk : Clerk) (des
       commands_by rules clerk b after same ∙ ap (λ e. cond (is_some e) [] (completed commands used)) over,
     )
 
-    met_now : HasObeyed rules op clerk.used desk.song → (f : WireFault) → operator_met rules.bytes used ≡ Some f → HasMet rules now f
+    met_now : HasObeyed rules op clerk.used desk.song → (f : WireFault) → operator_met rules.bytes used ≡ Some f → HasMet rules now (op_ends.Wire f)
     met_now obeyed f met =
         let taken : HasTaken wire used = pushes.taken clerk.used obeyed.taken in
         let found : operator_fault rules.bytes used ≡ Some f = fault_is rules.bytes clerk.used b obeyed.no_fault ∙ met in
         record {
+          fault = f;
+          is = refl;
           kept = taken.keeps.fault_is ∙ ap (λ n. operator_fault n used) limit_now ∙ found;
           text = used;
           taken = taken;
@@ -103,7 +106,7 @@ module _ (rules : Rules) (op : Operator) (view : ShelfView) (clerk : Clerk) (des
     over_by None going =
         let obeyed : HasObeyed rules op clerk.used desk.song = at_end None going in
         elim (maybe (operator_met rules.bytes used)) [
-          | inl none ↦ absurd (not_fault bytes fault (sym (in_order obeyed none) ∙ is))
+          | inl none ↦ absurd (joined-no_fault (brought bytes) (is_whole_command bytes) fault (sym (in_order obeyed none) ∙ is))
           | inr some ↦
               let same : some.0 ≡ fault = same_fault_in some.0 fault (sym (faulty obeyed some.0 some.1) ∙ is) in
               let met : operator_met rules.bytes used ≡ Some fault = some.1 ∙ ap (λ f. Some f) same in
@@ -112,18 +115,15 @@ module _ (rules : Rules) (op : Operator) (view : ShelfView) (clerk : Clerk) (des
                 obeying_as (record { used = clerk.used; end = Some (op_ends.Wire fault) }) after refl (met_now obeyed fault met) (op_ends.Wire fault) refl,
               )
         ]
-    over_by (Some (op_ends.Wire f)) over =
-        let hm : HasMet rules op f = at_end (Some (op_ends.Wire f)) over in
-        let same : f ≡ fault = same_fault_in f fault (sym (pushes.same_fault f hm.kept) ∙ is) in
-        let stays : wire ≡ op.wire = pushes.stays f hm.kept in
-        let after = over_stays rules clerk b (op_ends.Wire f) over in
-        let kept : HasMet rules now f = subst (λ (w : OpWire). HasMet rules (record op { wire = w }) f) (sym stays) hm in (
-          ap (λ (c : Clerk). c.end) after ∙ over ∙ ap (λ g. Some (op_ends.Wire g)) same,
-          obeying_as clerk after refl (subst (IsAtEnd rules now clerk.used desk.song) (sym over) kept) (op_ends.Wire f) over,
+    over_by (Some end) over =
+        let hm : HasMet rules op end = at_end (Some end) over in
+        let same : hm.fault ≡ fault = same_fault_in hm.fault fault (sym (pushes.same_fault hm.fault hm.kept) ∙ is) in
+        let stays : wire ≡ op.wire = pushes.fault_changes_nothing hm.fault hm.kept in
+        let after = over_stays rules clerk b end over in
+        let kept : HasMet rules now end = subst (λ (w : OpWire). HasMet rules (record op { wire = w }) end) (sym stays) hm in (
+          ap (λ (c : Clerk). c.end) after ∙ over ∙ ap (λ e. Some e) (hm.is ∙ ap (λ g. op_ends.Wire g) same),
+          obeying_as clerk after refl (subst (IsAtEnd rules now clerk.used desk.song) (sym over) kept) end over,
         )
-    over_by (Some op_ends.Ended) over = absurd (at_end (Some op_ends.Ended) over)
-    over_by (Some op_ends.ReadFault) over = absurd (at_end (Some op_ends.ReadFault) over)
-    over_by (Some op_ends.SinkFault) over = absurd (at_end (Some op_ends.SinkFault) over)
 
     pub fault_over : Some (op_ends.Wire fault) ≡ (clerk_after rules clerk b).end
     fault_over = sym (over_by clerk.end refl).0
@@ -135,14 +135,11 @@ module _ (rules : Rules) (op : Operator) (view : ShelfView) (clerk : Clerk) (des
 
   met_by : (end : Option OpEnd) → is_some end ≡ true → clerk.end ≡ end → (fault : WireFault) × (fault_met op.wire ≡ Some fault)
   met_by None some is = absurd (both_ways false refl some)
-  met_by (Some (op_ends.Wire f)) some is = let hm : HasMet rules op f = at_end (Some (op_ends.Wire f)) is in (f, hm.kept)
-  met_by (Some op_ends.Ended) some is = absurd (at_end (Some op_ends.Ended) is)
-  met_by (Some op_ends.ReadFault) some is = absurd (at_end (Some op_ends.ReadFault) is)
-  met_by (Some op_ends.SinkFault) some is = absurd (at_end (Some op_ends.SinkFault) is)
+  met_by (Some end) some is = let hm : HasMet rules op end = at_end (Some end) is in (hm.fault, hm.kept)
 
   -- one that is over stays as it is
   pub over_same : is_some clerk.end ≡ true → record op { wire = wire } ≡ op
-  over_same some = let met = met_by clerk.end some refl in ap (λ (w : OpWire). record op { wire = w }) (pushes.stays met.0 met.1)
+  over_same some = let met = met_by clerk.end some refl in ap (λ (w : OpWire). record op { wire = w }) (pushes.fault_changes_nothing met.0 met.1)
 
   pub never_on : ((fault : WireFault) → item ≡ items.Fault fault → ⊥) → is_some clerk.end ≡ true → ⊥
   never_on known some = let met = met_by clerk.end some refl in known met.0 (pushes.same_fault met.0 met.1)
@@ -153,7 +150,6 @@ module _ (rules : Rules) (op : Operator) (view : ShelfView) (clerk : Clerk) (des
     obeyed : HasObeyed rules op clerk.used desk.song
     met : operator_met rules.bytes used ≡ None
     item_is : item ≡ item_of bytes
-    order : IsInOrder bytes
     draft : IsDraft (draft_after op.draft (part_of item)) bytes
     sound : sound_there bytes ≡ sound_ahead (last_command clerk.used) ++ sound_in (part_of item)
     below : length clerk.used < rules.bytes
@@ -168,13 +164,12 @@ module _ (rules : Rules) (op : Operator) (view : ShelfView) (clerk : Clerk) (des
   hello_on going obeyed none short =
       let nothing : bytes ≡ [] = hello_stays clerk.used b short in
       let before : last_command clerk.used ≡ [] = in_hello clerk.used (omega arith) in
-      let part : part_of item ≡ items.Nothing = ap part_of (in_order obeyed none) ∙ ap (λ xs. part_of (item_of xs)) nothing in
+      let part : part_of item ≡ parts.Nothing = ap part_of (in_order obeyed none) ∙ ap (λ xs. part_of (item_of xs)) nothing in
       record {
         going = going;
         obeyed = obeyed;
         met = none;
         item_is = in_order obeyed none;
-        order = subst IsInOrder (sym nothing) nothing_in_order;
         draft = subst (IsDraft (draft_after op.draft (part_of item))) (sym nothing) (no_draft (draft_after op.draft (part_of item)));
         sound = ap sound_there nothing ∙ sym (ap (λ xs. sound_ahead xs ++ sound_in (part_of item)) before ∙ ap sound_in part);
         below = below_limit none;
@@ -184,15 +179,12 @@ module _ (rules : Rules) (op : Operator) (view : ShelfView) (clerk : Clerk) (des
   command_on going obeyed none far =
       let before : List ℕ = last_command clerk.used in
       let next : bytes ≡ next_bytes (last_command clerk.used) b = last_command-next clerk.used b far in
-      let head : head_fault (length clerk.used) (head_of (next_bytes before b)) ≡ None =
-      sym (packet_met rules.bytes clerk.used b (next_bytes before b) far (below_limit none) next) ∙ none in
-      let part : part_of item ≡ brought (next_bytes before b) = ap part_of (in_order obeyed none) ∙ part_is bytes ∙ ap brought next in
+      let part : part_of item ≡ brought (next_bytes before b) = ap part_of (in_order obeyed none) ∙ part-joined (brought bytes) (is_whole_command bytes) ∙ ap brought next in
       record {
         going = going;
         obeyed = obeyed;
         met = none;
         item_is = in_order obeyed none;
-        order = subst IsInOrder (sym next) (next_in_order (length clerk.used) before b obeyed.command head);
         draft = subst (λ i. IsDraft (draft_after op.draft i) bytes) (sym part)
             (subst (IsDraft (draft_after op.draft (brought (next_bytes before b)))) (sym next) (next_draft op.draft before b obeyed.draft));
         sound = ap sound_there next ∙ next_sound before b ∙ ap (λ i. sound_ahead before ++ sound_in i) (sym part);
@@ -206,14 +198,9 @@ module _ (rules : Rules) (op : Operator) (view : ShelfView) (clerk : Clerk) (des
         | inl none ↦ elim (cases_lt (length clerk.used) 4) [ inl short ↦ hello_on going obeyed none short | inr far ↦ command_on going obeyed none far ]
         | inr some ↦ absurd (known some.0 (faulty obeyed some.0 some.1))
       ]
-  goes_by known (Some (op_ends.Wire f)) over =
-      let hm : HasMet rules op f = at_end (Some (op_ends.Wire f)) over in
-      absurd (known f (pushes.same_fault f hm.kept))
-  goes_by known (Some op_ends.Ended) over = absurd (at_end (Some op_ends.Ended) over)
-  goes_by known (Some op_ends.ReadFault) over = absurd (at_end (Some op_ends.ReadFault) over)
-  goes_by known (Some op_ends.SinkFault) over = absurd (at_end (Some op_ends.SinkFault) over)
+  goes_by known (Some end) over = let hm : HasMet rules op end = at_end (Some end) over in absurd (known hm.fault (pushes.same_fault hm.fault hm.kept))
 
-  module _ (known : (fault : WireFault) → item ≡ items.Fault fault → ⊥) (part : OpItem) (part_eq : part ≡ part_of item)
+  module _ (known : (fault : WireFault) → item ≡ items.Fault fault → ⊥) (part : Part) (part_eq : part ≡ part_of item)
       (draft : Draft) (draft_eq : draft ≡ draft_after op.draft part) (recorder : Recorder)
       (hears : (sound : List ℕ) → IsRecording rules op.recorder desk.song sound → IsRecording rules recorder desk.song (sound ++ sound_in part))
       (song_room : recorder.words.room ≡ op.recorder.words.room) where
@@ -234,7 +221,11 @@ module _ (rules : Rules) (op : Operator) (view : ShelfView) (clerk : Clerk) (des
     draft_room = ap (λ (d : Draft). d.words.room) draft_eq ∙ room_stays op.draft part ∙ h.room
 
     whole_ends : ends item ≡ is_whole_command bytes
-    whole_ends = ap ends on.item_is ∙ ends_is bytes
+    whole_ends = ap ends on.item_is ∙ ends-joined (brought bytes) (is_whole_command bytes)
+
+    order_now : IsInOrder bytes
+    order_now = taken_in_order wire used (pushes.taken clerk.used on.obeyed.taken)
+        (ap (λ n. operator_fault n used) limit_now ∙ fault_is rules.bytes clerk.used b on.obeyed.no_fault ∙ on.met)
 
     used_now : clerk_after rules clerk b ≡ record { used = used; end = None }
     used_now = byte_used rules clerk b on.going on.met
@@ -246,7 +237,6 @@ module _ (rules : Rules) (op : Operator) (view : ShelfView) (clerk : Clerk) (des
         record {
           taken = subst (λ (w : OpWire). HasTaken w used) (sym same_wire) (pushes.taken clerk.used on.obeyed.taken);
           no_fault = fault_is rules.bytes clerk.used b on.obeyed.no_fault ∙ on.met;
-          command = on.order;
           draft = subst (λ d. IsDraft d bytes) (sym same_draft) draft_now;
           recording = heard;
           few = omega (arith, few, length-append clerk.used (b ∷ []), grown);
@@ -305,7 +295,7 @@ module _ (rules : Rules) (op : Operator) (view : ShelfView) (clerk : Clerk) (des
       whole_command_is = sym whole_ends ∙ last
 
       pub whole : IsWhole draft bytes
-      whole = whole_is draft bytes on.order draft_now (eqb-true _ _ whole_command_is)
+      whole = whole_is draft bytes order_now draft_now (eqb-true _ _ whole_command_is)
 
       none_ahead : sound_ahead bytes ≡ []
       none_ahead = ap (λ t. cond t [] (sound_there bytes)) whole_command_is
@@ -364,14 +354,11 @@ module _ (rules : Rules) (op : Operator) (view : ShelfView) (clerk : Clerk) (des
   ended_by None going obeyed =
       ap (λ w. option_map_or (λ fault. op_ends.Wire fault) w op_ends.Ended) (tells clerk.used obeyed.taken ∙ ap (λ n. operator_wrong n clerk.used) h.limit)
       ∙ sym (ap (λ e. unwrap_or e (option_map_or (λ fault. op_ends.Wire fault) (operator_wrong rules.bytes clerk.used) op_ends.Ended)) going)
-  ended_by (Some (op_ends.Wire f)) over met =
+  ended_by (Some end) over met =
       let border : Option WireFault = cond ((length met.text == 0) || ends_at_start operator_grammar met.text) None (Some (Cut (length met.text))) in
       ap (λ w. option_map_or (λ fault. op_ends.Wire fault) w op_ends.Ended)
       (tells met.text met.taken ∙ ap (λ n. operator_wrong n met.text) h.limit ∙ ap (λ o. option_or o border) met.met)
-      ∙ sym (ap (λ e. unwrap_or e (option_map_or (λ fault. op_ends.Wire fault) (operator_wrong rules.bytes clerk.used) op_ends.Ended)) over)
-  ended_by (Some op_ends.Ended) over met = absurd met
-  ended_by (Some op_ends.ReadFault) over met = absurd met
-  ended_by (Some op_ends.SinkFault) over met = absurd met
+      ∙ sym met.is ∙ sym (ap (λ e. unwrap_or e (option_map_or (λ fault. op_ends.Wire fault) (operator_wrong rules.bytes clerk.used) op_ends.Ended)) over)
 
   pub ended_is : option_map_or (λ fault. op_ends.Wire fault) wrong op_ends.Ended ≡ operator_end_of rules clerk
   ended_is = ended_by clerk.end refl h.stream

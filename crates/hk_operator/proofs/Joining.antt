@@ -13,7 +13,8 @@ use Rattle.hk_base.specs.declared.plain.WireFault.{WireFault}
 use Rattle.hk_spec_streams.specs.Pieces.{completed, first_that_holds}
 use Rattle.hk_spec_streams.specs.Operator.{Command, Publish, commands, operator_met}
 use Rattle.hk_spec_matching.specs.Catalogue.{Limits, Journal, edited_by, version}
-use Rattle.hk_spec_runs.specs.Desk.{Rules, Desk, present, refusals, after}
+use Rattle.hk_spec_runs.specs.Desk.{Desk, present, refusals, after}
+use Rattle.hk_spec_settings.specs.Settings.{Rules}
 use Rattle.hk_spec_runs.specs.Replay.{Scene, Clerk, obeyed, for_operator}
 use Rattle.hk_block.specs.Looker.{ShelfView}
 use Rattle.hk_operator.specs.Desk.{IsAtDesk}

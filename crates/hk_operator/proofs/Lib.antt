@@ -1,4 +1,3 @@
-pub mod Coming
 pub mod Drafting
 pub mod SoundThere
 pub mod WholeCommands

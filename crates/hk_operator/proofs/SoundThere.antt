@@ -1,64 +1,56 @@
 -- The sound that has come of a command, as its next byte comes.
 use Rattle.std.proofs.Common.{◌≡◌, ℕ, ◌+◌, ◌-◌, ◌<◌, ◌≤◌, inl, inr, List, [], ◌∷◌, ◌++◌, length, drop, refl, sym, ◌∙◌, ap, subst, arith, length-append, Bool, true, false, cond}
-use Rattle.std.specs.Prelude.{◌==◌, ◌||◌, slice_index}
+use Rattle.std.specs.Prelude.{◌==◌, ◌||◌, ◌⊎◌, slice_index}
 use Rattle.std.specs.Int.{w32}
-use Rattle.std.proofs.lemmas.Bool.{cases_lt, cases_Bool, eqb-true, eqb-false, eq-eqb, or_cases}
+use Rattle.std.proofs.lemmas.Bool.{cases_lt, cases_Bool, eqb-true, or_cases, both_ways}
 use Rattle.std.proofs.lemmas.List.{drop_all, drop-append-le}
 use Rattle.hk_spec_streams.specs.Grammar.{packet_size}
-use Rattle.hk_spec_streams.specs.Operator.{ADD_WORDS, OPEN_SONG, AUDIO, WITHDRAW}
-use Rattle.hk_operator_wire.specs.declared.item.OpItem.{OpItem}
-use Rattle.hk_operator_wire.specs.declared.item.OpItem.TheVariants as items
+use Rattle.hk_spec_streams.specs.Commands.{Content, Words, SoundForm, Sound, Nothing, content_of}
+use Rattle.hk_spec_streams.proofs.CommandRows.{sound_has_no_id}
+use Rattle.hk_operator_wire.specs.declared.item.Part.{Part}
+use Rattle.hk_operator_wire.specs.declared.item.Part.TheVariants as parts
 use Rattle.hk_operator_wire.specs.Items.{brought, is_whole_command}
-use Rattle.hk_operator_wire.specs.Says.{Says}
 use Rattle.hk_operator_wire.proofs.Reading.{next_bytes}
-use Rattle.hk_operator_wire.proofs.Saying.{says}
+use Rattle.hk_operator_wire.proofs.Saying.{Says, says}
+use Rattle.hk_operator_wire.proofs.Coming.{Begins, Goes, comes}
 use Rattle.hk_operator_wire.proofs.Payloads.{same_kind}
-use Rattle.hk_operator.specs.Sound.{sound_in, sound_there, sound_ahead}
-use Rattle.hk_operator.proofs.Coming.{Begins, Goes, comes}
+use Rattle.hk_operator.specs.Sound.{sound_in, sound_if, sound_there, sound_ahead}
 use Rattle.std.proofs.lemmas.List.{get_or_at}
-use Rattle.hk_operator.proofs.Drafting.{two_differ, id_kinds}
+use Rattle.hk_operator.proofs.Drafting.{two_contents}
 
 -- sound comes with the bytes behind the length, and nothing else brings any
-no_sound : (i : OpItem) (bytes : List ℕ) → Says i bytes → (slice_index bytes 0 ≡ AUDIO → 5 < length bytes → ⊥) → sound_in i ≡ []
-no_sound items.Nothing bytes s none = refl
-no_sound (items.Begin k) bytes s none = refl
-no_sound (items.Id id) bytes s none = refl
-no_sound (items.Word w) bytes s none = refl
-no_sound (items.Form f) bytes s none = refl
-no_sound (items.Byte x) bytes s none = absurd (none s.kind s.some)
-no_sound items.Complete bytes s none = absurd s
-no_sound (items.Both last) bytes s none = absurd s
-no_sound (items.Fault f) bytes s none = absurd s
+no_sound : (part : Part) (bytes : List ℕ) → Says part bytes → (content_of (slice_index bytes 0) ≡ Sound → 5 < length bytes → ⊥) → sound_in part ≡ []
+no_sound parts.Nothing bytes s none = refl
+no_sound (parts.Begin k) bytes s none = refl
+no_sound (parts.Id id) bytes s none = refl
+no_sound (parts.Word w) bytes s none = refl
+no_sound (parts.Form f) bytes s none = refl
+no_sound (parts.Byte x) bytes s none = absurd (none s.content s.some)
 
-some_sound : (i : OpItem) (bytes : List ℕ) → Says i bytes → slice_index bytes 0 ≡ AUDIO → 5 < length bytes → sound_in i ≡ slice_index bytes (length bytes - 1) ∷ []
-some_sound items.Nothing bytes s kind some = absurd (s.no_sound kind some)
-some_sound (items.Begin k) bytes s kind some = absurd (omega (arith, some, s.0))
-some_sound (items.Id id) bytes s kind some = absurd (elim (id_kinds (slice_index bytes 0) s.1) [
-  | inl one ↦ two_differ AUDIO ADD_WORDS (slice_index bytes 0) kind one (λ same. omega (arith, same))
-  | inr rest ↦ elim rest [
-    | inl two ↦ two_differ AUDIO OPEN_SONG (slice_index bytes 0) kind two (λ same. omega (arith, same))
-    | inr five ↦ two_differ AUDIO WITHDRAW (slice_index bytes 0) kind five (λ same. omega (arith, same))
-  ]
-])
-some_sound (items.Word w) bytes s kind some = absurd (two_differ AUDIO ADD_WORDS (slice_index bytes 0) kind s.kind (λ same. omega (arith, same)))
-some_sound (items.Form f) bytes s kind some = absurd (two_differ AUDIO OPEN_SONG (slice_index bytes 0) kind s.kind (λ same. omega (arith, same)))
-some_sound (items.Byte x) bytes s kind some = ap (λ y. y ∷ []) s.value
-some_sound items.Complete bytes s kind some = absurd s
-some_sound (items.Both last) bytes s kind some = absurd s
-some_sound (items.Fault f) bytes s kind some = absurd s
+some_sound : (part : Part) (bytes : List ℕ) → Says part bytes → content_of (slice_index bytes 0) ≡ Sound → 5 < length bytes
+    → sound_in part ≡ slice_index bytes (length bytes - 1) ∷ []
+some_sound parts.Nothing bytes s content some = absurd (s.no_sound content some)
+some_sound (parts.Begin k) bytes s content some = absurd (omega (arith, some, s.0))
+some_sound (parts.Id id) bytes s content some = absurd (both_ways false refl (sym (sound_has_no_id (slice_index bytes 0) content) ∙ s.1))
+some_sound (parts.Word w) bytes s content some = absurd (two_contents s.content content (λ same. cc))
+some_sound (parts.Form f) bytes s content some = absurd (two_contents s.content content (λ same. cc))
+some_sound (parts.Byte x) bytes s content some = ap (λ y. y ∷ []) s.value
 
-pub is_audio : (bytes : List ℕ) → slice_index bytes 0 ≡ AUDIO → sound_there bytes ≡ drop 5 bytes
-is_audio bytes kind = ap (λ t. cond t (drop 5 bytes) []) (eq-eqb (slice_index bytes 0) AUDIO kind)
+-- whether a command brings sound
+sounds : (bytes : List ℕ) → (content_of (slice_index bytes 0) ≡ Sound) ⊎ ((payload : List ℕ) → sound_if (content_of (slice_index bytes 0)) payload ≡ [])
+sounds bytes = by (content_of (slice_index bytes 0))
+  where
+    by : (c : Content) → (c ≡ Sound) ⊎ ((payload : List ℕ) → sound_if c payload ≡ [])
+    by Sound = inl refl
+    by Words = inr (λ payload. refl)
+    by SoundForm = inr (λ payload. refl)
+    by Nothing = inr (λ payload. refl)
 
-pub no_audio : (bytes : List ℕ) → (slice_index bytes 0 == AUDIO) ≡ false → sound_there bytes ≡ []
-no_audio bytes kind = ap (λ t. cond t (drop 5 bytes) []) kind
+is_sound : (bytes : List ℕ) → content_of (slice_index bytes 0) ≡ Sound → sound_there bytes ≡ drop 5 bytes
+is_sound bytes content = ap (λ c. sound_if c (drop 5 bytes)) content
 
 no_head_sound : (bytes : List ℕ) → length bytes ≤ 5 → sound_there bytes ≡ []
-no_head_sound bytes few = by (slice_index bytes 0 == AUDIO) (drop_all 5 bytes few)
-  where
-    by : (t : Bool) → drop 5 bytes ≡ [] → cond t (drop 5 bytes) [] ≡ []
-    by true none = none
-    by false none = refl
+no_head_sound bytes few = elim (sounds bytes) [ inl content ↦ is_sound bytes content ∙ drop_all 5 bytes few | inr other ↦ other (drop 5 bytes) ]
 
 last_of_more : (bytes : List ℕ) (b : ℕ) → slice_index (bytes ++ b ∷ []) (length (bytes ++ b ∷ []) - 1) ≡ b
 last_of_more bytes b =
@@ -73,18 +65,22 @@ sound-more bytes b some =
       | inl few ↦
           no_head_sound longer (omega (arith, more, few))
           ∙ sym (ap (λ xs. xs ++ sound_in (brought longer)) (no_head_sound bytes (omega (arith, few))) ∙ no_sound (brought longer) longer (says longer) (λ kind far. omega (arith, more, few, far)))
-      | inr many ↦ elim (cases_Bool (slice_index longer 0 == AUDIO)) [
-        | inl sound ↦
-            let kind : slice_index longer 0 ≡ AUDIO = eqb-true _ _ sound in
-            is_audio longer kind ∙ drop-append-le 5 bytes (b ∷ []) many
-            ∙ sym (ap (λ xs. xs ++ sound_in (brought longer)) (is_audio bytes (sym (same_kind bytes b some) ∙ kind))
-            ∙ ap (λ xs. drop 5 bytes ++ xs) (some_sound (brought longer) longer (says longer) kind (omega (arith, more, many)) ∙ ap (λ x. x ∷ []) (last_of_more bytes b)))
-        | inr other ↦
-            no_audio longer other
-            ∙ sym (ap (λ xs. xs ++ sound_in (brought longer)) (no_audio bytes (ap (λ k. k == AUDIO) (sym (same_kind bytes b some)) ∙ other))
-            ∙ no_sound (brought longer) longer (says longer) (λ kind far. eqb-false _ _ other kind))
-      ]
+      | inr many ↦
+          let same : content_of (slice_index longer 0) ≡ content_of (slice_index bytes 0) = ap content_of (same_kind bytes b some) in
+          elim (sounds longer) [
+            | inl content ↦
+                is_sound longer content ∙ drop-append-le 5 bytes (b ∷ []) many
+                ∙ sym (ap (λ xs. xs ++ sound_in (brought longer)) (is_sound bytes (sym same ∙ content))
+                ∙ ap (λ xs. drop 5 bytes ++ xs) (some_sound (brought longer) longer (says longer) content (omega (arith, more, many)) ∙ ap (λ x. x ∷ []) (last_of_more bytes b)))
+            | inr other ↦
+                other (drop 5 longer)
+                ∙ sym (ap (λ xs. xs ++ sound_in (brought longer)) (ap (λ c. sound_if c (drop 5 bytes)) (sym same) ∙ other (drop 5 bytes))
+                ∙ no_sound (brought longer) longer (says longer) (λ content far. some_none b (sym (ap (λ c. sound_if c (b ∷ [])) content) ∙ other (b ∷ []))))
+          ]
     ]
+  where
+    some_none : (x : ℕ) → x ∷ [] ≡ [] → ⊥
+    some_none x is = cc
 
 -- the sound ahead of the next byte, and what the byte brings
 pub next_sound : (bytes : List ℕ) (b : ℕ) → sound_there (next_bytes bytes b) ≡ sound_ahead bytes ++ sound_in (brought (next_bytes bytes b))

@@ -5,7 +5,8 @@ use Rattle.hk_base.specs.declared.plain.Reason.TheVariants.{NoMemory}
 use Rattle.hk_base.specs.declared.plain.What.{What}
 use Rattle.hk_base.specs.declared.plain.What.TheVariants.{Done, Published, Refused}
 use Rattle.hk_spec_matching.specs.Catalogue.{version}
-use Rattle.hk_spec_runs.specs.Desk.{Rules, Desk, present}
+use Rattle.hk_spec_runs.specs.Desk.{Desk, present}
+use Rattle.hk_spec_settings.specs.Settings.{Rules}
 use Rattle.hk_block.specs.Looker.{ShelfView}
 
 -- The shelf stands for the desk.

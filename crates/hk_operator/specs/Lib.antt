@@ -1,6 +1,5 @@
-pub mod Kept
+pub mod WordBuffer
 pub mod Inside
-pub mod Parts
 pub mod Draft
 pub mod Sound
 pub mod Desk

@@ -1,22 +1,16 @@
 -- An operator, its shelf, and the clerk and the desk that they stand for.
-use Rattle.std.specs.Prelude.{◌≡◌, ℕ, ◌+◌, ◌-◌, ◌^◌, ◌<◌, ◌≤◌, min, Bool, true, false, if◌then◌else◌, List, [], ◌∷◌, ◌++◌, length, take, drop, slice_index, Option, Some, None, is_some}
+use Rattle.std.specs.Prelude.{◌≡◌, ℕ, ◌+◌, ◌-◌, ◌^◌, ◌<◌, ◌≤◌, min, Bool, true, false, if◌then◌else◌, List, [], ◌∷◌, ◌++◌, length, Option, Some, None, is_some}
 use Rattle.std.specs.Option.{option_map_or}
-use Rattle.std.specs.Int.{w32, from_be_bytes}
 use Rattle.hk_base.specs.declared.plain.OpEnd.{OpEnd}
 use Rattle.hk_base.specs.declared.plain.OpEnd.TheVariants as ends
 use Rattle.hk_base.specs.declared.plain.WireFault.{WireFault}
 use Rattle.hk_spec_streams.specs.Pieces.{completed}
-use Rattle.hk_spec_streams.specs.Grammar.{packet_size}
-use Rattle.hk_spec_streams.specs.Operator.{Command, AddWords, OpenSong, Audio, Close, Withdraw, Publish, operator_met, operator_fault, commands, command_length_fits, OPEN_SONG}
-use Rattle.hk_spec_streams.specs.Pieces.{is_one_of}
-use Rattle.hk_spec_runs.specs.Desk.{Rules, Desk, Recording, IsReply, after}
+use Rattle.hk_spec_streams.specs.Operator.{Command, AddWords, OpenSong, Audio, Close, Withdraw, Publish, operator_met, operator_fault, commands}
+use Rattle.hk_spec_runs.specs.Desk.{Desk, Recording, IsReply, after}
+use Rattle.hk_spec_settings.specs.Settings.{Rules}
 use Rattle.hk_spec_runs.specs.Replay.{Clerk}
 use Rattle.hk_block.specs.Looker.{ShelfView}
-use Rattle.hk_operator_wire.specs.declared.wire.OpWire.{OpWire}
-use Rattle.hk_operator_wire.specs.declared.item.OpItem.{OpItem}
-use Rattle.hk_operator_wire.specs.declared.item.OpItem.TheVariants as items
-use Rattle.hk_operator_wire.specs.Items.{last_command, op_item_at}
-use Rattle.hk_operator_wire.specs.Heads.{is_kind}
+use Rattle.hk_operator_wire.specs.Items.{last_command}
 use Rattle.hk_operator_wire.specs.Taken.{HasTaken, limit_of, fault_met}
 use Rattle.hk_operator.specs.Draft.{IsDraft}
 use Rattle.hk_operator.specs.Sound.{IsFixed, IsRecording, sound_ahead}
@@ -26,25 +20,18 @@ use Rattle.hk_operator.specs.declared.done.Done.TheVariants.{More, Reply, Publis
 use Rattle.hk_operator.specs.declared.operator.Operator.{Operator}
 use Rattle.hk_operator.specs.declared.recorder.Recorder.{Recorder}
 
--- the bytes of a command that has no fault so far
-pub record IsInOrder (bytes : List ℕ) : Type 0 where
-  pub kind : 0 < length bytes → is_kind (slice_index bytes 0) ≡ true
-  pub fits : 5 ≤ length bytes → command_length_fits (slice_index bytes 0) (from_be_bytes w32 (take 4 (drop 1 bytes))) ≡ true
-  pub channels : slice_index bytes 0 ≡ OPEN_SONG → 10 ≤ length bytes → is_one_of (1 ∷ 2 ∷ []) (slice_index bytes 9) ≡ true
-  pub factor : slice_index bytes 0 ≡ OPEN_SONG → 11 ≤ length bytes → is_one_of (1 ∷ 2 ∷ 4 ∷ 8 ∷ []) (slice_index bytes 10) ≡ true
-  pub within : length bytes ≤ packet_size w32 bytes
-
 -- The operator has taken these bytes, which have no fault, and keeps the open command, and the open song's words.
 pub record HasObeyed (rules : Rules) (operator : Operator) (used : List ℕ) (song : Option Recording) : Type 0 where
   pub taken : HasTaken operator.wire used
   pub no_fault : operator_fault rules.bytes used ≡ None
-  pub command : IsInOrder (last_command used)
   pub draft : IsDraft operator.draft (last_command used)
   pub recording : IsRecording rules operator.recorder song (sound_ahead (last_command used))
   pub few : length (commands used) ≤ length used
 
--- The operator has met this fault, behind the bytes that it used.
-pub record HasMet (rules : Rules) (operator : Operator) (fault : WireFault) : Type 0 where
+-- The operator's stream is over by a fault that it has met, behind the bytes that it used.
+pub record HasMet (rules : Rules) (operator : Operator) (end : OpEnd) : Type 0 where
+  pub fault : WireFault
+  pub is : end ≡ ends.Wire fault
   pub kept : fault_met operator.wire ≡ Some fault
   pub text : List ℕ
   pub taken : HasTaken operator.wire text
@@ -52,10 +39,7 @@ pub record HasMet (rules : Rules) (operator : Operator) (fault : WireFault) : Ty
 
 abbrev pub IsAtEnd : Rules → Operator → List ℕ → Option Recording → Option OpEnd → Type 0
 IsAtEnd rules operator used song None = HasObeyed rules operator used song
-IsAtEnd rules operator used song (Some (ends.Wire fault)) = HasMet rules operator fault
-IsAtEnd rules operator used song (Some ends.Ended) = ⊥
-IsAtEnd rules operator used song (Some ends.ReadFault) = ⊥
-IsAtEnd rules operator used song (Some ends.SinkFault) = ⊥
+IsAtEnd rules operator used song (Some end) = HasMet rules operator end
 
 -- The operator and its shelf stand for a clerk and a desk.
 pub record IsObeying (rules : Rules) (operator : Operator) (view : ShelfView) (clerk : Clerk) (desk : Desk) : Type 0 where
@@ -75,14 +59,6 @@ pub record IsDesk (rules : Rules) (operator : Operator) (view : ShelfView) (desk
   pub shelf : IsAtDesk rules view desk
   pub room : operator.draft.words.room ≡ rules.limits.positions
   pub song_room : operator.recorder.words.room ≡ rules.limits.positions
-
--- what a wire gives for a byte
-pub record Pushes (old : OpWire) (b : ℕ) (new : OpWire) (item : OpItem) : Type 0 where
-  pub item_is : (text : List ℕ) → HasTaken old text → item ≡ op_item_at (limit_of old) (text ++ b ∷ [])
-  pub taken : (text : List ℕ) → HasTaken old text → HasTaken new (text ++ b ∷ [])
-  pub limit : limit_of new ≡ limit_of old
-  pub same_fault : (fault : WireFault) → fault_met old ≡ Some fault → item ≡ items.Fault fault
-  pub stays : (fault : WireFault) → fault_met old ≡ Some fault → new ≡ old
 
 abbrev pub new_clerk : Clerk
 new_clerk = record { used = []; end = None }

@@ -1,17 +1,20 @@
 -- The open song, and the sound that came.
-use Rattle.std.specs.Prelude.{◌≡◌, ℕ, ◌==◌, true, if◌then◌else◌, List, [], ◌∷◌, ◌++◌, drop, slice_index, Option, Some, None}
+use Rattle.std.specs.Prelude.{◌≡◌, ℕ, true, if◌then◌else◌, List, [], ◌∷◌, ◌++◌, drop, slice_index, Option, Some, None}
 use Rattle.hk_base.specs.declared.plain.Form.{Form}
 use Rattle.hk_spec_sound.specs.Prints.{full_analysis}
+use Rattle.hk_spec_sound.specs.Limits.{CHANNELS, FACTORS}
 use Rattle.hk_spec_streams.specs.Pieces.{is_one_of}
-use Rattle.hk_spec_streams.specs.Operator.{Command, AddWords, OpenSong, Audio, Close, Withdraw, Publish, AUDIO}
+use Rattle.hk_spec_streams.specs.Commands.{Content, Words, SoundForm, Sound, Nothing, content_of}
+use Rattle.hk_spec_streams.specs.Operator.{Command, AddWords, OpenSong, Audio, Close, Withdraw, Publish}
 use Rattle.hk_spec_matching.specs.Matching.{MOST_ERRORS}
-use Rattle.hk_spec_runs.specs.Desk.{Rules, Recording, recorded_words}
-use Rattle.hk_operator_wire.specs.declared.item.OpItem.{OpItem}
-use Rattle.hk_operator_wire.specs.declared.item.OpItem.TheVariants as items
+use Rattle.hk_spec_runs.specs.Desk.{Recording, recorded_words}
+use Rattle.hk_spec_settings.specs.Settings.{Rules}
+use Rattle.hk_operator_wire.specs.declared.item.Part.{Part}
+use Rattle.hk_operator_wire.specs.declared.item.Part.TheVariants as parts
 use Rattle.hk_operator_wire.specs.Items.{is_whole_command}
 use Rattle.hk_front.specs.Hearing.{channels_of, factor_of}
 use Rattle.hk_front.specs.Hearing as front
-use Rattle.hk_operator.specs.Kept.{Keeps}
+use Rattle.hk_operator.specs.WordBuffer.{Keeps}
 use Rattle.hk_operator.specs.declared.recorder.Recorder.{Recorder}
 
 -- the rules that are built in
@@ -20,21 +23,17 @@ pub record IsFixed (rules : Rules) : Type 0 where
   pub errors : rules.errors ≡ MOST_ERRORS
   pub analysis : rules.setting.analysis ≡ full_analysis
 
--- one channel or two, and a factor of 1, 2, 4 or 8
 abbrev pub IsAllowedForm : Form → Type 0
-IsAllowedForm form = (is_one_of (1 ∷ 2 ∷ []) form.channels ≡ true) × (is_one_of (1 ∷ 2 ∷ 4 ∷ 8 ∷ []) form.factor ≡ true)
+IsAllowedForm form = (is_one_of CHANNELS form.channels ≡ true) × (is_one_of FACTORS form.factor ≡ true)
 
--- the sound that an item brings, that a command has, and that a command's bytes have
-abbrev pub sound_in : OpItem → List ℕ
-sound_in (items.Byte byte) = byte ∷ []
-sound_in items.Nothing = []
-sound_in (items.Begin kind) = []
-sound_in (items.Id id) = []
-sound_in (items.Word word) = []
-sound_in (items.Form form) = []
-sound_in items.Complete = []
-sound_in (items.Both last) = []
-sound_in (items.Fault fault) = []
+-- the sound that a byte brings, that a command has, and that a command's bytes have
+abbrev pub sound_in : Part → List ℕ
+sound_in (parts.Byte byte) = byte ∷ []
+sound_in parts.Nothing = []
+sound_in (parts.Begin kind) = []
+sound_in (parts.Id id) = []
+sound_in (parts.Word word) = []
+sound_in (parts.Form form) = []
 
 abbrev pub sound_of : Command → List ℕ
 sound_of (Audio bytes) = bytes
@@ -44,8 +43,14 @@ sound_of Close = []
 sound_of (Withdraw id) = []
 sound_of Publish = []
 
+abbrev pub sound_if : Content → List ℕ → List ℕ
+sound_if Sound payload = payload
+sound_if Words payload = []
+sound_if SoundForm payload = []
+sound_if Nothing payload = []
+
 abbrev pub sound_there : List ℕ → List ℕ
-sound_there bytes = if slice_index bytes 0 == AUDIO then drop 5 bytes else []
+sound_there bytes = sound_if (content_of (slice_index bytes 0)) (drop 5 bytes)
 
 -- the sound of a command that isn't whole yet
 abbrev pub sound_ahead : List ℕ → List ℕ

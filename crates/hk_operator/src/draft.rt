@@ -2,9 +2,9 @@
 ghost use Rattle.std.specs.Prelude.{◌≡◌, ◌≤◌, ◌^◌, IfOk};
 ghost use Rattle.hk_operator.specs.Draft.{new_draft, draft_after};
 
-use crate::kept::Kept;
+use crate::word_buffer::WordBuffer;
 use hk_base::{Form, NoMemory};
-use hk_operator_wire::OpItem;
+use hk_operator_wire::Part;
 use std::alloc::Global;
 
 /// A command's kind, its id, its form and its words; what didn't come is left over from an earlier command.
@@ -13,7 +13,7 @@ pub struct Draft {
     pub kind: u8,
     pub id: u32,
     pub form: Form,
-    pub words: Kept,
+    pub words: WordBuffer,
 }
 
 impl Draft {
@@ -30,23 +30,23 @@ impl Draft {
                 channels: 1,
                 factor: 1,
             },
-            words: Kept::new(alloc, room)?,
+            words: WordBuffer::new(alloc, room)?,
         })
     }
 
-    /// Takes what an item brings.
-    pub fn take(&mut self, part: OpItem)
+    /// Takes what a byte brings.
+    pub fn take(&mut self, part: Part)
         ensures { self.new ≡ draft_after self.old part }
     {
         match part {
-            OpItem::Begin(kind) => {
+            Part::Begin(kind) => {
                 self.kind = kind;
                 self.words.clear();
             }
-            OpItem::Id(id) => self.id = id,
-            OpItem::Word(word) => self.words.push(word),
-            OpItem::Form(form) => self.form = form,
-            _ => {}
+            Part::Id(id) => self.id = id,
+            Part::Word(word) => self.words.push(word),
+            Part::Form(form) => self.form = form,
+            Part::Nothing | Part::Byte(_) => {}
         }
     }
 }

@@ -1,33 +1,22 @@
 // The operator.
-ghost use Rattle.std.specs.Prelude.{◌≡◌, ◌≤◌, ◌^◌, ◌+◌, ℕ, [], ◌∷◌, length, IfOk, is_some, true};
+ghost use Rattle.std.specs.Prelude.{◌≡◌, ◌≤◌, ◌^◌, ◌+◌, ℕ, [], ◌∷◌, length, IfOk, is_some, true, None};
 ghost use Rattle.hk_spec_streams.specs.Operator.{Command, Close, commands};
-ghost use Rattle.hk_spec_runs.specs.Desk.{Rules, Desk, new_desk, IsReply, after};
+ghost use Rattle.hk_spec_runs.specs.Desk.{Desk, IsReply, after};
+ghost use Rattle.hk_spec_settings.specs.Settings.{Rules};
 ghost use Rattle.hk_spec_runs.specs.Replay.{Clerk, operator_end_of};
 ghost use Rattle.hk_block.specs.Looker.{ShelfView};
 ghost use Rattle.hk_operator.specs.Desk.{IsAtDesk, StaysPublished};
 ghost use Rattle.hk_operator.specs.Draft.{Drafts};
 ghost use Rattle.hk_operator.specs.Sound.{IsFixed, sound_of};
-ghost use Rattle.hk_operator.specs.Obeying.{Pushes};
 
 use crate::done::Done;
 use crate::draft::Draft;
-use crate::part::{ends, part_of};
 use crate::recorder::Recorder;
 use crate::staging;
 use hk_base::{NoMemory, OpEnd, Reason, Reply, What};
 use hk_catalogue::Shelf;
-use hk_operator_wire::{OpItem, OpWire};
+use hk_operator_wire::{Kind, OpItem, OpWire};
 use std::alloc::Global;
-
-const ADD_WORDS: u8 = 1;
-
-const OPEN_SONG: u8 = 2;
-
-const AUDIO: u8 = 3;
-
-const CLOSE: u8 = 4;
-
-const WITHDRAW: u8 = 5;
 
 /// An operator's stream as far as it was obeyed: its wire, the open command, the open song, and the number of commands.
 #[derive(Drop)]
@@ -37,13 +26,6 @@ pub struct Operator {
     draft: Draft,
     recorder: Recorder,
     commands: u64,
-}
-
-// What the wire gives for a byte.
-fn given(wire: &mut OpWire, byte: u8) -> OpItem
-    ensures { Pushes wire.old byte wire.new result }
-{
-    wire.push(byte)
 }
 
 fn reply(number: u64, what: What) -> Done
@@ -60,8 +42,8 @@ impl Operator {
     pub fn new(alloc: Global, limit: u64, positions: u32) -> Result<Operator, NoMemory>
         requires enough { 256 ≤ positions }
         requires most { positions ≤ 2 ^ 24 }
-        ensures { IfOk result (λ operator. (rules : Rules) (view : ShelfView) → IsFixed rules → rules.bytes ≡ limit → rules.limits.positions ≡ positions
-            → IsAtDesk rules view new_desk → IsObeying rules operator view new_clerk new_desk) }
+        ensures { IfOk result (λ operator. (rules : Rules) (view : ShelfView) (desk : Desk) → IsFixed rules → rules.bytes ≡ limit → rules.limits.positions ≡ positions
+            → desk.song ≡ None → IsAtDesk rules view desk → IsObeying rules operator view new_clerk desk) }
     {
         Ok(Operator {
             alloc,
@@ -84,21 +66,22 @@ impl Operator {
             → is_some clerk.end ≡ true → (self.new ≡ self.old) × (shelf.new ≡ shelf.old) }
         ensures published { StaysPublished (S.shelf shelf.old) (S.shelf shelf.new) }
     {
-        let item = given(&mut self.wire, byte);
+        let item = self.wire.push(byte);
         if let OpItem::Fault(fault) = item {
             return Done::Over(OpEnd::Wire(fault));
         }
-        let part = part_of(item);
+        let part = item.part();
         self.draft.take(part);
         self.recorder.take(part);
-        if ends(item) {
+        if item.ends() {
             self.complete(shelf)
         } else {
             Done::More
         }
     }
 
-    // Obeys the command, which is whole.
+    // Obeys the command, which is whole. Its large locals stay out of what is called for each byte.
+    #[inline(never)]
     fn complete<S: Shelf>(&mut self, shelf: &mut S) -> Done
         ensures answered { (rules : Rules) (desk : Desk) (command : Command) → IsDesk rules self.old (S.shelf shelf.old) desk (sound_of command)
             → Drafts self.old.draft command
@@ -109,16 +92,17 @@ impl Operator {
         let number = self.commands.saturating_add(1);
         self.commands = number;
         let id = self.draft.id;
-        match self.draft.kind {
-            ADD_WORDS => reply(
+        match Kind::numbered(self.draft.kind) {
+            Some(Kind::AddWords) => reply(
                 number,
                 staging::add(self.alloc, id, &self.draft.words, shelf),
             ),
-            OPEN_SONG => reply(number, self.recorder.open(id, self.draft.form)),
-            AUDIO => reply(number, self.recorder.audio()),
-            CLOSE => reply(number, self.close(shelf)),
-            WITHDRAW => reply(number, staging::withdraw(id, shelf)),
-            _ => Done::Publish(number),
+            Some(Kind::OpenSong) => reply(number, self.recorder.open(id, self.draft.form)),
+            Some(Kind::Audio) => reply(number, self.recorder.audio()),
+            Some(Kind::Close) => reply(number, self.close(shelf)),
+            Some(Kind::Withdraw) => reply(number, staging::withdraw(id, shelf)),
+            Some(Kind::Publish) => Done::Publish(number),
+            None => Done::More,
         }
     }
 

@@ -1,14 +1,15 @@
 // The open song: its sound in, its words kept.
 ghost use Rattle.std.specs.Prelude.{◌≡◌, ◌≤◌, ◌^◌, ◌++◌, [], List, ℕ, Option, None, IfOk};
-ghost use Rattle.hk_spec_runs.specs.Desk.{Rules, Desk, Recording, answer, after};
+ghost use Rattle.hk_spec_runs.specs.Desk.{Desk, Recording, answer, after};
+ghost use Rattle.hk_spec_settings.specs.Settings.{Rules};
 ghost use Rattle.hk_spec_streams.specs.Operator.{OpenSong, Audio};
-ghost use Rattle.hk_operator.specs.Kept.{no_words};
+ghost use Rattle.hk_operator.specs.WordBuffer.{no_words};
 ghost use Rattle.hk_operator.specs.Sound.{IsRecording, IsFixed, sound_in, IsAllowedForm};
 
-use crate::kept::Kept;
+use crate::word_buffer::WordBuffer;
 use hk_base::{Form, NoMemory, Reason, What};
 use hk_front::Front;
-use hk_operator_wire::OpItem;
+use hk_operator_wire::Part;
 use std::alloc::Global;
 
 /// The front that hears the open song, the song's id where one is open, and its words.
@@ -16,7 +17,7 @@ use std::alloc::Global;
 pub struct Recorder {
     pub front: Front,
     pub song: Option<u32>,
-    pub words: Kept,
+    pub words: WordBuffer,
 }
 
 // The number where it is 1 to `most`, and else the nearer of them.
@@ -46,23 +47,23 @@ impl Recorder {
         Ok(Recorder {
             front: Front::new(alloc, 0)?,
             song: None,
-            words: Kept::new(alloc, room)?,
+            words: WordBuffer::new(alloc, room)?,
         })
     }
 
-    /// Hears what an item brings, where it is sound and a song is open.
-    pub fn take(&mut self, part: OpItem)
+    /// Hears what a byte brings, where it is sound and a song is open.
+    pub fn take(&mut self, part: Part)
         ensures hears { (rules : Rules) (song : Option Recording) (sound : List ℕ) → IsFixed rules → IsRecording rules self.old song sound → IsRecording rules self.new song (sound ++ sound_in part) }
         ensures room { self.new.words.room ≡ self.old.words.room }
     {
-        if let OpItem::Byte(byte) = part {
+        if let Part::Byte(byte) = part {
             self.hear(byte);
         }
     }
 
     // Hears a byte where a song is open.
     fn hear(&mut self, byte: u8)
-        ensures hears { (rules : Rules) (song : Option Recording) (sound : List ℕ) → IsFixed rules → IsRecording rules self.old song sound → IsRecording rules self.new song (sound ++ sound_in (OpItem.Byte byte)) }
+        ensures hears { (rules : Rules) (song : Option Recording) (sound : List ℕ) → IsFixed rules → IsRecording rules self.old song sound → IsRecording rules self.new song (sound ++ sound_in (Part.Byte byte)) }
         ensures room { self.new.words.room ≡ self.old.words.room }
     {
         if self.song.is_none() {

@@ -7,18 +7,20 @@ use Rattle.std.proofs.lemmas.List.{take-append-le, take_all, get_or_at}
 use Rattle.std.proofs.lemmas.Bool.{lt-ltb, le-ltb, le-leb, ne_eqb}
 use Rattle.hk_base.specs.declared.plain.WireFault.{WireFault}
 use Rattle.hk_base.specs.declared.plain.WireFault.TheVariants.{BadHello, BadKind, BadLength, BadFormat, TooLong}
-use Rattle.hk_spec_streams.specs.Pieces.{first_that_holds, last_bytes}
+use Rattle.hk_spec_streams.specs.Pieces.{first_that_holds, last_bytes, is_one_of}
 use Rattle.hk_spec_streams.specs.Grammar.{packet_size, ends_at_start}
-use Rattle.hk_spec_streams.specs.Operator.{operator_grammar, operator_met, command_length_fits, has_bad_format}
+use Rattle.hk_spec_streams.specs.Operator.{operator_grammar, operator_met, has_bad_format}
+use Rattle.hk_spec_streams.specs.Commands.{numbers, command_length_fits}
+use Rattle.hk_spec_streams.proofs.CommandRows.{is_kind}
 use Rattle.hk_spec_streams.proofs.GrowingPackets.{over}
 use Rattle.hk_spec_streams.proofs.GrowingCommands.{no_packets, last_command-append, ends_at_start-is}
-use Rattle.hk_station_wire.specs.Held.{IsLast, is_over}
-use Rattle.hk_station_wire.specs.declared.packet.LastPacket.{LastPacket}
-use Rattle.hk_station_wire.specs.declared.packet.LengthSize.{LengthSize}
-use Rattle.hk_station_wire.specs.declared.packet.LengthSize.TheVariants.{Four}
+use Rattle.hk_wire.specs.Held.{IsLast, is_over}
+use Rattle.hk_wire.specs.declared.packet.LastPacket.{LastPacket}
+use Rattle.hk_wire.specs.declared.packet.LengthSize.{LengthSize}
+use Rattle.hk_wire.specs.declared.packet.LengthSize.TheVariants.{Four}
 use Rattle.hk_operator_wire.specs.declared.item.OpItem.TheVariants as items
-use Rattle.hk_operator_wire.specs.Items.{last_command, item_of}
-use Rattle.hk_operator_wire.specs.Heads.{head_of, head_fault, hello_allows, hello_outcome, is_kind}
+use Rattle.hk_operator_wire.specs.Items.{last_command, head_of, item_of}
+use Rattle.hk_operator_wire.specs.Heads.{head_fault, hello_allows, hello_outcome}
 
 -- the next byte of a command's bytes
 abbrev pub next_bytes : List ℕ → ℕ → List ℕ
@@ -36,7 +38,7 @@ met_by limit n wrong bytes =
     first_that_holds (
     (nat_lt limit n, TooLong limit)
     ∷ (nat_lt (n - 1) 4 && wrong, BadHello (n - 1))
-    ∷ ((length bytes == 1) && not (is_kind (slice_index bytes 0)), BadKind (n - 1))
+    ∷ ((length bytes == 1) && not (is_one_of numbers (slice_index bytes 0)), BadKind (n - 1))
     ∷ ((length bytes == 5) && not (command_length_fits (slice_index bytes 0) (from_be_bytes w32 (drop 1 bytes))), BadLength (n - 1 + 1 - 4))
     ∷ (has_bad_format bytes, BadFormat (n - 1)) ∷ [])
 
@@ -72,7 +74,7 @@ rows t h w limit p q n bytes =
     first_that_holds (
     (t, TooLong limit)
     ∷ (h && w, BadHello p)
-    ∷ ((length bytes == 1) && not (is_kind (slice_index bytes 0)), BadKind p)
+    ∷ ((length bytes == 1) && not (is_one_of numbers (slice_index bytes 0)), BadKind p)
     ∷ ((length bytes == 5) && not (command_length_fits (slice_index bytes 0) n), BadLength q)
     ∷ (has_bad_format bytes, BadFormat p) ∷ [])
 
@@ -113,7 +115,10 @@ hello_rows place b limit q n false = refl
 packet_rows : (w : Bool) (limit p : ℕ) (bytes : List ℕ)
     → rows false false w limit p (p - 3) (from_be_bytes w32 (take 4 (drop 1 bytes))) bytes ≡ head_fault p (head_of bytes)
 unfolding rows
-packet_rows w limit p bytes = refl
+packet_rows w limit p bytes = ap (λ known. first_that_holds (
+    ((length bytes == 1) && not known, BadKind p)
+    ∷ ((length bytes == 5) && not (command_length_fits (slice_index bytes 0) (from_be_bytes w32 (take 4 (drop 1 bytes)))), BadLength (p - 3))
+    ∷ (has_bad_format bytes, BadFormat p) ∷ [])) (is_kind (slice_index bytes 0))
 
 pub too_long : (limit : ℕ) (text : List ℕ) (b : ℕ) → limit ≤ length text → operator_met limit (text ++ b ∷ []) ≡ Some (TooLong limit)
 too_long limit text b past =

@@ -6,7 +6,9 @@ use Rattle.hk_spec_streams.specs.Pieces.{first_met}
 use Rattle.hk_spec_streams.specs.Operator.{operator_met, operator_fault}
 use Rattle.hk_spec_streams.proofs.FirstFault.{fault_of-append}
 use Rattle.hk_operator_wire.specs.declared.item.OpItem.TheVariants as items
+use Rattle.hk_operator_wire.specs.declared.wire.OpWire.{OpWire}
 use Rattle.hk_operator_wire.specs.Items.{last_command, item_of, op_item_at}
+use Rattle.hk_operator_wire.specs.Taken.{HasTaken, IsInOrder, limit_of}
 
 pub no_text : (limit : ℕ) → operator_fault limit [] ≡ None
 unfolding first_met
@@ -23,3 +25,7 @@ item_at_none limit text is = ap (λ o. option_map_or (λ f. items.Fault f) o (it
 -- where no fault was met, the fault is what the byte meets
 pub fault_is : (limit : ℕ) (text : List ℕ) (b : ℕ) → operator_fault limit text ≡ None → operator_fault limit (text ++ b ∷ []) ≡ operator_met limit (text ++ b ∷ [])
 fault_is limit text b none = fault_of-append (operator_met limit) text b ∙ ap (λ o. option_or o (operator_met limit (text ++ b ∷ []))) none
+
+-- the last command of a text without a fault is in order
+pub taken_in_order : (wire : OpWire) (text : List ℕ) → HasTaken wire text → operator_fault (limit_of wire) text ≡ None → IsInOrder (last_command text)
+taken_in_order wire text has none = (has.stands (has.keeps.fault_is ∙ none)).order

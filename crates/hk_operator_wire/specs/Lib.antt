@@ -1,4 +1,4 @@
+pub mod Kinds
 pub mod Heads
 pub mod Items
 pub mod Taken
-pub mod Says

@@ -8,6 +8,7 @@
 
 mod head;
 mod item;
+mod kind;
 mod reader;
 mod recent;
 #[cfg(test)]
@@ -15,5 +16,6 @@ mod tests;
 mod wire;
 
 pub use hk_base::{Form, WireFault};
-pub use item::{OpItem, OpLast};
+pub use item::{OpItem, OpLast, Part};
+pub use kind::Kind;
 pub use wire::OpWire;

@@ -3,15 +3,15 @@ ghost use Rattle.std.specs.Prelude.{◌≡◌, ◌≤◌, ◌<◌, ◌+◌, ◌^
 ghost use Rattle.std.specs.Result.{result_err};
 ghost use Rattle.hk_spec_streams.specs.Operator.{operator_grammar, operator_met};
 ghost use Rattle.hk_spec_streams.specs.Grammar.{ends_at_start};
-ghost use Rattle.hk_station_wire.specs.Held.{length_size, IsLast};
-ghost use Rattle.hk_station_wire.specs.declared.packet.LengthSize.TheVariants.{Four};
+ghost use Rattle.hk_wire.specs.Held.{length_size, IsLast};
+ghost use Rattle.hk_wire.specs.declared.packet.LengthSize.TheVariants.{Four};
 ghost use Rattle.hk_operator_wire.specs.Heads.{hello_outcome};
 
-use crate::head::{Head, brought_by, ended, head_fault, hello_allows};
+use crate::head::{CommandHead, brought_by, head_fault, hello_allows};
 use crate::item::OpItem;
 use crate::recent::LastFour;
 use hk_base::WireFault;
-use hk_station_wire::{LastPacket, LengthSize};
+use hk_wire::{LastPacket, LengthSize};
 
 const HELLO_SIZE: u64 = 4;
 
@@ -25,8 +25,8 @@ pub struct OpReader {
 
 impl OpReader {
     ghost use Rattle.hk_operator_wire.specs.Taken.{StandsAfter, command_count};
-    ghost use Rattle.hk_operator_wire.specs.Items.{last_command, item_of};
-    ghost use Rattle.hk_operator_wire.specs.Heads.{Ends, head_of};
+    ghost use Rattle.hk_operator_wire.specs.Items.{last_command, head_of, item_of};
+    ghost use Rattle.hk_operator_wire.specs.Heads.{Ends};
 
     pub fn new() -> OpReader
         ensures stands { StandsAfter result [] }
@@ -62,22 +62,20 @@ impl OpReader {
     }
 
     // What the last command's last byte brings.
-    fn item(&self, head: Head, byte: u8) -> OpItem
+    fn item(&self, head: CommandHead, byte: u8) -> OpItem
         ensures { (bytes : List ℕ) → IsLast self.now.packet bytes → Ends self.now.recent bytes → 0 < length bytes
             → head ≡ head_of bytes → byte ≡ slice_index bytes (length bytes - 1) → result ≡ item_of bytes }
     {
-        let item = brought_by(head, self.recent.number(), byte);
-        if self.packet.is_over() {
-            ended(item)
-        } else {
-            item
-        }
+        OpItem::joined(
+            brought_by(head, self.recent.number(), byte),
+            self.packet.is_over(),
+        )
     }
 
-    fn head(&self) -> Head
+    fn head(&self) -> CommandHead
         ensures { (bytes : List ℕ) → IsLast self.now.packet bytes → result ≡ head_of bytes }
     {
-        Head {
+        CommandHead {
             kind: self.packet.kind(),
             count: self.packet.count(),
             length: self.packet.length(),

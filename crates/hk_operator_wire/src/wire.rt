@@ -3,13 +3,13 @@ ghost use Rattle.std.specs.Prelude.{◌≡◌, ◌≤◌, ◌++◌, ℕ, List, [
 ghost use Rattle.std.specs.Result.{result_err};
 ghost use Rattle.hk_base.specs.declared.plain.WireFault.{WireFault};
 ghost use Rattle.hk_spec_streams.specs.Operator.{operator_wrong};
-ghost use Rattle.hk_station_wire.specs.Held.{count_of};
-ghost use Rattle.hk_station_wire.specs.Kept.{bytes_taken, fault_kept};
+ghost use Rattle.hk_wire.specs.Held.{count_of};
+ghost use Rattle.hk_wire.specs.Kept.{bytes_taken, fault_kept};
 
 use crate::item::OpItem;
 use crate::reader::OpReader;
 use hk_base::WireFault;
-use hk_station_wire::Passage;
+use hk_wire::Passage;
 
 /// An operator's stream as far as it was taken. It keeps its place, its last command's first and last bytes and its
 /// fault, and no history.
@@ -21,8 +21,8 @@ pub struct OpWire {
 }
 
 impl OpWire {
-    ghost use Rattle.hk_operator_wire.specs.Taken.{HasTaken, limit_of, fault_met};
-    ghost use Rattle.hk_operator_wire.specs.Items.{op_item_at};
+    ghost use Rattle.hk_operator_wire.specs.Taken.{HasTaken, Pushes, limit_of, fault_met};
+    ghost use Rattle.hk_operator_wire.specs.Items.{op_item_at, IsPossible};
 
     /// A wire that has taken nothing, and takes at most `limit` bytes.
     pub fn new(limit: u64) -> OpWire
@@ -35,10 +35,18 @@ impl OpWire {
         }
     }
 
-    /// Takes the stream's next byte, and answers with what it brings. After a fault each push answers that fault and
-    /// changes nothing.
+    /// Takes the stream's next byte, and answers with what it brings; neither `Complete` nor a lone `Form`. After a fault each
+    /// push answers that fault and changes nothing.
     pub fn push(&mut self, byte: u8) -> OpItem
+        ensures { Pushes self.old byte self.new result }
+    {
+        self.next_item(byte)
+    }
+
+    // The same, clause by clause.
+    fn next_item(&mut self, byte: u8) -> OpItem
         ensures item { (text : List ℕ) → HasTaken self.old text → result ≡ op_item_at (limit_of self.old) (text ++ byte ∷ []) }
+        ensures possible { (text : List ℕ) → HasTaken self.old text → IsPossible result }
         ensures taken { (text : List ℕ) → HasTaken self.old text → HasTaken self.new (text ++ byte ∷ []) }
         ensures limit_stays { limit_of self.new ≡ limit_of self.old }
         ensures same_fault { (fault : WireFault) → fault_met self.old ≡ Some fault → result ≡ OpItem.Fault fault }

@@ -1,5 +1,5 @@
 -- What a reader has read, and what it tells of the last byte.
-use Rattle.std.specs.Prelude.{◌≡◌, ℕ, ◌+◌, ◌≤◌, List, [], length, Some, None, Result, MatchResult, ⊤, slice_get}
+use Rattle.std.specs.Prelude.{◌≡◌, ℕ, ◌+◌, ◌≤◌, List, [], length, Option, Some, None, Result, MatchResult, ⊤, slice_get}
 use Rattle.std.specs.Option.{option_map_or}
 use Rattle.hk_base.specs.declared.plain.Trouble.{Trouble}
 use Rattle.hk_spec_streams.specs.Pieces.{completed}
@@ -15,11 +15,16 @@ stations_of reader = reader.stations
 abbrev pub limit_of : RecordReader → ℕ
 limit_of reader = reader.limit
 
+-- the fault that the reader has met
+abbrev pub fault_met : RecordReader → Option Trouble
+fault_met reader = reader.fault
+
 -- The reader has read this text, which has no fault: it knows how long it is, where the open record begins, how far that has come, and
 -- whose it is.
 pub record HasRead (reader : RecordReader) (text : List ℕ) : Type 0 where
   pub taken : reader.taken ≡ length text
   pub within : reader.taken ≤ reader.limit
+  pub none_met : reader.fault ≡ None
   pub no_fault : input_fault reader.stations reader.limit text ≡ None
   pub begun : (open_bytes text ≡ [] → ⊥) → reader.begun + length (open_bytes text) ≡ length text
   pub part : IsPart reader.part (open_bytes text)

@@ -1,9 +1,11 @@
 // How far a record has come.
 ghost use Rattle.std.specs.Prelude.{◌≡◌, ◌+◌, ◌∷◌, ◌++◌, [], ℕ, List, length, false};
 ghost use Rattle.std.specs.Int.{w16, from_be_bytes};
+ghost use Rattle.hk_base.specs.declared.plain.Trouble.{Trouble};
 ghost use Rattle.hk_records.specs.Part.{IsFor, IsKnown, IsOneOf, IsPart, IsRest, arrived, has_bad_head, head_of};
 
 use crate::reader::Came;
+use byteorder::{BigEndian, ByteOrder};
 
 /// Whose bytes a record has.
 #[derive(Clone, Copy, Debug, PartialEq, Eq)]
@@ -51,6 +53,7 @@ pub fn is_faulty(stations: u8, part: Part, byte: u8) -> bool
 // What the byte is: a byte of the open record's stream, or part of its head.
 pub fn arrival(part: Part, byte: u8) -> Came
     ensures known { (stations : ℕ) → IsKnown stations part → IsFor stations result }
+    ensures good { (trouble : Trouble) → result ≡ Came.Bad trouble → ⊥ }
     ensures arrived { (bytes : List ℕ) → IsPart part bytes → result ≡ arrived bytes byte }
 {
     match part {
@@ -71,7 +74,7 @@ pub fn after(stations: u8, part: Part, byte: u8) -> Part
         Part::Letter => Part::High(Owner::Operator),
         Part::Number => Part::High(Owner::Station(byte)),
         Part::High(owner) => Part::Low(owner, byte),
-        Part::Low(owner, high) => body(owner, u16::from_be_bytes([high, byte])),
+        Part::Low(owner, high) => body(owner, BigEndian::read_u16(&[high, byte])),
         Part::Body(owner, left) => body(owner, left.saturating_sub(1)),
     }
 }

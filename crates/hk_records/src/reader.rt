@@ -1,5 +1,6 @@
 // The reader of an input.
-ghost use Rattle.std.specs.Prelude.{◌≡◌, ◌∷◌, ◌++◌, [], ℕ, List, length};
+ghost use Rattle.std.specs.Prelude.{◌≡◌, ◌∷◌, ◌++◌, [], ℕ, List, length, Some, Err};
+ghost use Rattle.hk_base.specs.declared.plain.Trouble.{Trouble};
 
 use crate::part::{Part, after, arrival, is_faulty, record_begin};
 use hk_base::Trouble;
@@ -17,7 +18,7 @@ pub enum Came {
     Bad(Trouble),
 }
 
-/// Reads an input of records for so many stations, byte after byte, up to its first fault.
+/// Reads an input of records for so many stations, byte after byte, up to its first fault, which it keeps.
 #[derive(Drop)]
 pub struct RecordReader {
     stations: u8,
@@ -25,11 +26,12 @@ pub struct RecordReader {
     taken: u64,
     begun: u64,
     part: Part,
+    fault: Option<Trouble>,
 }
 
 impl RecordReader {
     ghost use Rattle.hk_records.specs.Part.{IsFor};
-    ghost use Rattle.hk_records.specs.Reader.{HasRead, EndsWith, IsGood, came_at, limit_of, stations_of};
+    ghost use Rattle.hk_records.specs.Reader.{HasRead, EndsWith, IsGood, came_at, fault_met, limit_of, stations_of};
 
     /// Nothing is read yet. An input of over `limit` bytes is too long.
     pub fn new(stations: u8, limit: u64) -> RecordReader
@@ -43,24 +45,31 @@ impl RecordReader {
             taken: 0,
             begun: 0,
             part: Part::Letter,
+            fault: None,
         }
     }
 
-    /// What the next byte is. After `Bad` the reader has no more use.
+    /// What the next byte is. After `Bad` each push answers that fault and changes nothing.
     pub fn push(&mut self, byte: u8) -> Came
         ensures came { (text : List ℕ) → HasRead self.old text → result ≡ came_at (stations_of self.old) (limit_of self.old) (text ++ byte ∷ []) }
         ensures reads { (text : List ℕ) → HasRead self.old text → IsGood result → HasRead self.new (text ++ byte ∷ []) }
         ensures known { (text : List ℕ) → HasRead self.old text → IsFor (stations_of self.old) result }
         ensures stations { stations_of self.new ≡ stations_of self.old }
         ensures limit { limit_of self.new ≡ limit_of self.old }
+        ensures fault { (trouble : Trouble) → result ≡ Came.Bad trouble → fault_met self.new ≡ Some trouble }
+        ensures same_fault { (trouble : Trouble) → fault_met self.old ≡ Some trouble → result ≡ Came.Bad trouble }
+        ensures fault_changes_nothing { (trouble : Trouble) → fault_met self.old ≡ Some trouble → self.new ≡ self.old }
     {
+        if let Some(fault) = self.fault {
+            return Came::Bad(fault);
+        }
         if self.taken >= self.limit {
-            return Came::Bad(Trouble::TooLong(self.limit));
+            return self.fail(Trouble::TooLong(self.limit));
         }
         let part = self.part;
         let begun = record_begin(part, self.taken, self.begun);
         if is_faulty(self.stations, part, byte) {
-            return Came::Bad(Trouble::BadRecord(begun));
+            return self.fail(Trouble::BadRecord(begun));
         }
         self.taken += 1;
         self.begun = begun;
@@ -68,10 +77,25 @@ impl RecordReader {
         arrival(part, byte)
     }
 
-    /// How the input ends here: in order, or inside a record.
-    pub fn finish(&self) -> Result<(), Trouble>
-        ensures { (text : List ℕ) → HasRead self.now text → EndsWith (stations_of self.now) (limit_of self.now) text result }
+    // Keeps the input's first fault.
+    fn fail(&mut self, fault: Trouble) -> Came
+        ensures told { result ≡ Came.Bad fault }
+        ensures kept { fault_met self.new ≡ Some fault }
+        ensures stations { stations_of self.new ≡ stations_of self.old }
+        ensures limit { limit_of self.new ≡ limit_of self.old }
     {
+        self.fault = Some(fault);
+        Came::Bad(fault)
+    }
+
+    /// How the input ends here: in order, inside a record, or with the fault that was met.
+    pub fn finish(&self) -> Result<(), Trouble>
+        ensures ends { (text : List ℕ) → HasRead self.now text → EndsWith (stations_of self.now) (limit_of self.now) text result }
+        ensures fault { (trouble : Trouble) → fault_met self.now ≡ Some trouble → result ≡ Err trouble }
+    {
+        if let Some(fault) = self.fault {
+            return Err(fault);
+        }
         match self.part {
             Part::Letter => Ok(()),
             _ => Err(Trouble::BadRecord(self.begun)),

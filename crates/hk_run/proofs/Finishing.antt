@@ -72,10 +72,7 @@ module _ (rules : Rules) (operator : Operator) (view : ShelfView) (clerk : Clerk
   by_end : (kept : Option OpEnd) → IsAtEnd rules operator clerk.used desk.song kept
       → operator_ended (unwrap_or kept (option_map_or (λ fault. op_ends.Wire fault) (operator_wrong rules.bytes clerk.used) op_ends.Ended)) ≡ (is_none kept && is_none (operator_wrong rules.bytes clerk.used))
   by_end None h = by_wrong (operator_wrong rules.bytes clerk.used)
-  by_end (Some (op_ends.Wire fault)) h = refl
-  by_end (Some op_ends.Ended) h = absurd h
-  by_end (Some op_ends.ReadFault) h = absurd h
-  by_end (Some op_ends.SinkFault) h = absurd h
+  by_end (Some end) h = ap operator_ended h.is
 
   operator_in_order : IsObeying rules operator view clerk desk → operator_ended (operator_end_of rules clerk) ≡ (is_none clerk.end && is_none (operator_wrong rules.bytes clerk.used))
   operator_in_order h = by_end clerk.end h.stream

@@ -10,6 +10,10 @@ use Rattle.hk_spec_matching.specs.Catalogue.{Song, Songs}
 pub record Query : Type 0 where
   pub prints : List Print
 
+-- what is looked up for some prints
+abbrev pub query_for : List Print → Query
+query_for prints = record { prints = prints }
+
 -- the bits in which a print and a word differ
 abbrev pub difference : Print × ℕ → ℕ
 difference p = bit_xor p.0.word p.1

@@ -2,7 +2,7 @@
 use Rattle.std.proofs.Common.{◌≡◌, ℕ, ◌++◌, List, [], ◌∷◌, length, ap, sym, ◌∙◌, arith, length-append}
 use Rattle.std.specs.List.{list_all}
 use Rattle.hk_spec_lines.proofs.LastBytes.{newlines, newlines_behind}
-use Rattle.hk_spec_runs.specs.Desk.{Rules}
+use Rattle.hk_spec_settings.specs.Settings.{Rules}
 use Rattle.hk_spec_runs.specs.Replay.{scene_of, out, summary, replay}
 use Rattle.hk_spec_runs.specs.Outcome.{has_ended}
 use Rattle.hk_spec_runs.proofs.SceneEnds.{scene_kept}

@@ -1,25 +1,19 @@
 -- The operator's machine: what is answered to each command, and what stands after it.
-use Rattle.std.specs.Prelude.{◌≡◌, ◌⊎◌, ℕ, ◌+◌, ◌-◌, Bool, true, not, nat_lt, nat_le, List, [], ◌∷◌, ◌++◌, map, length, Option, Some, None, is_some, is_none, option_map}
+use Rattle.std.specs.Prelude.{◌≡◌, ◌⊎◌, ℕ, ◌+◌, Bool, true, List, [], ◌∷◌, ◌++◌, map, length, Option, Some, None, is_some, is_none, option_map}
 use Rattle.std.specs.Option.{option_map_or}
 use Rattle.hk_base.specs.declared.plain.Form.{Form}
 use Rattle.hk_base.specs.declared.plain.Reason.{Reason}
-use Rattle.hk_base.specs.declared.plain.Reason.TheVariants.{Duplicate, Short, Unknown, SongsFull, PositionsFull, VersionsFull, SongOpen, NoSongOpen, NoMemory}
+use Rattle.hk_base.specs.declared.plain.Reason.TheVariants.{Unknown, VersionsFull, SongOpen, NoSongOpen, NoMemory}
 use Rattle.hk_base.specs.declared.plain.What.{What}
 use Rattle.hk_base.specs.declared.plain.What.TheVariants.{Done, Published, Refused}
 use Rattle.hk_spec_sound.specs.Prints.{prints_of_sound}
 use Rattle.hk_spec_streams.specs.Pieces.{first_that_holds}
-use Rattle.hk_spec_streams.specs.Blocks.{Setting}
 use Rattle.hk_spec_streams.specs.Operator.{Command, AddWords, OpenSong, Audio, Close, Withdraw, Publish, commands, operator_seen}
-use Rattle.hk_spec_matching.specs.Catalogue.{Song, Songs, Edit, Add, Limits, Journal, has_song, positions_of, edited_by, version}
+use Rattle.hk_spec_matching.specs.Catalogue.{Song, Songs, Edit, Add, Journal, has_song, positions_of, edited_by, version}
 use Rattle.hk_spec_matching.specs.Catalogue as edits
-
--- All that a run is set to. A song that is added is matched with at most `errors` errors; `bytes` is the limit of bytes of a stream.
-pub record Rules : Type 0 where
-  pub setting : Setting
-  pub errors : ℕ
-  pub limits : Limits
-  pub stations : ℕ
-  pub bytes : ℕ
+pub use Rattle.hk_spec_settings.specs.Settings.{Rules}
+pub use Rattle.hk_spec_settings.specs.Refusals.{add_refusals}
+use Rattle.hk_spec_settings.specs.Refusals.{withdraw_tests, publish_tests}
 
 -- a song on its way, with the sound that came
 pub record Recording : Type 0 where
@@ -39,6 +33,10 @@ with_audio bytes song = record song { audio = song.audio ++ bytes }
 abbrev pub new_desk : Desk
 new_desk = record { journal = []; staged = []; song = None }
 
+-- What stands once the operator's stream is over: what was published. An open song and edits that are staged are dropped.
+abbrev pub at_end : Desk → Desk
+at_end desk = record desk { staged = []; song = None }
+
 module _ (rules : Rules) where
   -- the songs that a publish now would give: the last version with the staged edits
   abbrev pub present : Desk → Songs
@@ -50,25 +48,17 @@ module _ (rules : Rules) where
       map (λ print. print.word) (prints_of_sound rules.setting.analysis rules.setting.flips song.form.channels song.form.factor song.audio)
 
   -- Why a command is refused, in the order in which it is tested.
-  abbrev pub add_refusals : Songs → ℕ → ℕ → List (Bool × Reason)
-  add_refusals songs id words =
-      (has_song songs id, Duplicate)
-      ∷ (nat_lt words rules.setting.block_size, Short)
-      ∷ (nat_le rules.limits.songs (length songs), SongsFull)
-      ∷ (nat_lt (rules.limits.positions - positions_of songs) words, PositionsFull)
-      ∷ []
-
   abbrev pub close_refusals : Songs → Option Recording → List (Bool × Reason)
   close_refusals songs None = (true, NoSongOpen) ∷ []
-  close_refusals songs (Some song) = add_refusals songs song.id (length (recorded_words song))
+  close_refusals songs (Some song) = add_refusals rules songs song.id (length (recorded_words song))
 
   abbrev pub refusals : Desk → Command → List (Bool × Reason)
-  refusals desk (AddWords id words) = add_refusals (present desk) id (length words)
+  refusals desk (AddWords id words) = add_refusals rules (present desk) id (length words)
   refusals desk (OpenSong id form) = (is_some desk.song, SongOpen) ∷ []
   refusals desk (Audio bytes) = (is_none desk.song, NoSongOpen) ∷ []
   refusals desk Close = close_refusals (present desk) desk.song
-  refusals desk (Withdraw id) = (not (has_song (present desk) id), Unknown) ∷ []
-  refusals desk Publish = (nat_le rules.limits.versions (length desk.journal), VersionsFull) ∷ []
+  refusals desk (Withdraw id) = withdraw_tests (has_song (present desk) id) Unknown
+  refusals desk Publish = publish_tests rules.limits (length desk.journal) VersionsFull
 
   abbrev pub success : Desk → Command → What
   success desk Publish = Published (length desk.journal + 1)
@@ -83,8 +73,8 @@ module _ (rules : Rules) where
   IsReply desk command reply = (reply ≡ answer desk command)
       ⊎ ((reply ≡ Refused NoMemory) × (first_that_holds (refusals desk command) ≡ None))
 
-  abbrev pub song_of : List ℕ → Song
-  song_of words = record { words = words; limit = rules.errors }
+  abbrev pub added_song : List ℕ → Song
+  added_song words = record { words = words; limit = rules.errors }
 
   abbrev pub with_edit : Desk → Edit → Desk
   with_edit desk edit = record desk { staged = desk.staged ++ edit ∷ [] }
@@ -92,11 +82,11 @@ module _ (rules : Rules) where
   -- the song is staged and no song is open
   abbrev pub closed : Desk → Option Recording → Desk
   closed desk None = desk
-  closed desk (Some song) = record desk { staged = desk.staged ++ Add song.id (song_of (recorded_words song)) ∷ []; song = None }
+  closed desk (Some song) = record desk { staged = desk.staged ++ Add song.id (added_song (recorded_words song)) ∷ []; song = None }
 
   -- what stands after a command with this reply
   unfoldable pub after : Desk → Command → What → Desk
-  after desk (AddWords id words) Done = with_edit desk (Add id (song_of words))
+  after desk (AddWords id words) Done = with_edit desk (Add id (added_song words))
   after desk (OpenSong id form) Done = record desk { song = Some (record { id = id; form = form; audio = [] }) }
   after desk (Audio bytes) Done = record desk { song = option_map (with_audio bytes) desk.song }
   after desk (Audio bytes) (Refused NoMemory) = record desk { song = None }
@@ -120,4 +110,4 @@ module _ (rules : Rules) where
 
   -- what the operator's bytes publish with these replies
   abbrev pub journal_of : List ℕ → List What → Journal
-  journal_of bytes replies = (desk_after new_desk (commands (operator_seen rules.bytes bytes)) replies).journal
+  journal_of bytes replies = (at_end (desk_after new_desk (commands (operator_seen rules.bytes bytes)) replies)).journal

@@ -8,7 +8,8 @@ use Rattle.hk_base.specs.declared.plain.Match.{Match}
 use Rattle.hk_spec_streams.specs.Blocks.{Block}
 use Rattle.hk_spec_matching.specs.Catalogue.{Edit, Add}
 use Rattle.hk_spec_matching.specs.Catalogue as edits
-use Rattle.hk_spec_runs.specs.Desk.{Rules, Desk, new_desk, answer, after}
+use Rattle.hk_spec_runs.specs.Desk.{Desk, new_desk, answer, after}
+use Rattle.hk_spec_settings.specs.Settings.{Rules}
 
 abbrev pub SMALL : Rules
 SMALL = record { setting = streams.small; errors = 1; limits = record { songs = 2; positions = 6; versions = 2 }; stations = 1; bytes = 1000 }

@@ -3,6 +3,7 @@ pub mod Replay
 pub mod Listening
 pub mod History
 pub mod Make
+pub mod Options
 pub mod Words
 pub mod Outcome
 pub mod Examples

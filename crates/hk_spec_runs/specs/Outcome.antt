@@ -10,7 +10,7 @@ use Rattle.hk_spec_streams.specs.Records.{input_fault, input_wrong}
 use Rattle.hk_spec_streams.specs.Station.{station_wrong}
 use Rattle.hk_spec_streams.specs.Operator.{operator_wrong}
 use Rattle.hk_spec_lines.specs.Lines.{print_line, trouble_line}
-use Rattle.hk_spec_runs.specs.Desk.{Rules}
+use Rattle.hk_spec_settings.specs.Settings.{Rules}
 use Rattle.hk_spec_runs.specs.Replay.{Scene, scene_of, out, replay}
 use Rattle.hk_spec_runs.specs.Words.{Order, Replay, Print, Make, Printing}
 use Rattle.hk_spec_runs.specs.Make.{make_line}

@@ -20,13 +20,13 @@ use Rattle.hk_spec_streams.proofs.GrowingPrints.{next_prints, NoPrint, NoData, P
 use Rattle.hk_spec_streams.proofs.Completed.{completed-more}
 use Rattle.hk_station_wire.specs.declared.item.Item.{Item}
 use Rattle.hk_station_wire.specs.declared.item.Item.TheVariants as item
-use Rattle.hk_station_wire.specs.declared.packet.LengthSize.{LengthSize}
-use Rattle.hk_station_wire.specs.declared.packet.LengthSize.TheVariants.{Two}
-use Rattle.hk_station_wire.specs.declared.packet.LastPacket.{LastPacket}
+use Rattle.hk_wire.specs.declared.packet.LengthSize.{LengthSize}
+use Rattle.hk_wire.specs.declared.packet.LengthSize.TheVariants.{Two}
+use Rattle.hk_wire.specs.declared.packet.LastPacket.{LastPacket}
 use Rattle.hk_station_wire.specs.declared.reader.Part.{Part}
 use Rattle.hk_station_wire.specs.declared.reader.Part.TheVariants.{Data, FenceEnd, GapBegin, GapEnd, Other}
 use Rattle.hk_station_wire.specs.declared.reader.Reader.{Reader}
-use Rattle.hk_station_wire.specs.Held.{IsLast, gathered, length_in, length_size, is_over}
+use Rattle.hk_wire.specs.Held.{IsLast, gathered, length_in, length_size, is_over}
 use Rattle.hk_station_wire.specs.Items.{carries_prints}
 use Rattle.hk_station_wire.specs.Steps.{head_fault, part_of, left_of_print, print_outcome}
 use Rattle.hk_station_wire.specs.Taken.{StandsAfter, HasByte, Brings, unfinished_print}

@@ -11,9 +11,9 @@ use Rattle.hk_spec_streams.specs.Station.{station_met, channels_of, factor_of, s
 use Rattle.hk_spec_streams.specs.LastPacket.{last_packet, form_of}
 use Rattle.hk_station_wire.specs.declared.item.Item.{Item}
 use Rattle.hk_station_wire.specs.declared.item.Item.TheVariants as item
-use Rattle.hk_station_wire.specs.declared.packet.LastPacket.{LastPacket}
+use Rattle.hk_wire.specs.declared.packet.LastPacket.{LastPacket}
 use Rattle.hk_station_wire.specs.declared.reader.Reader.{Reader}
-use Rattle.hk_station_wire.specs.Held.{IsLast, gathered}
+use Rattle.hk_wire.specs.Held.{IsLast, gathered}
 use Rattle.hk_station_wire.specs.Steps.{hello_allows}
 use Rattle.hk_station_wire.specs.Taken.{StandsAfter, Brings}
 use Rattle.hk_station_wire.proofs.LastItems.{hello_item, hello_packet, hello_unfinished}

@@ -3,7 +3,6 @@ pub mod Parts
 pub mod LastItems
 pub mod InHello
 pub mod Behind
-pub mod StillKept
 pub mod WellFormed
 pub mod OpenGap
 pub mod ItemLaws

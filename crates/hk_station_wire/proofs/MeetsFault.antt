@@ -16,8 +16,8 @@ use Rattle.hk_spec_streams.specs.LastPacket.{last_packet, all_sent_prints, ends_
 use Rattle.hk_spec_streams.proofs.GrowingSegments.{packets_short}
 use Rattle.hk_spec_streams.proofs.Completed.{completed-more}
 use Rattle.hk_spec_streams.proofs.GrowingPrints.{next_prints, NoPrint, NoData, PartOfPrint, WholePrint}
-use Rattle.hk_station_wire.specs.declared.packet.LengthSize.TheVariants.{Two}
-use Rattle.hk_station_wire.specs.Held.{length_in}
+use Rattle.hk_wire.specs.declared.packet.LengthSize.TheVariants.{Two}
+use Rattle.hk_wire.specs.Held.{length_in}
 use Rattle.hk_station_wire.specs.Steps.{hello_allows, is_kind, head_fault}
 
 -- the five tests, and what stands beside each

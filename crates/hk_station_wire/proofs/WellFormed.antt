@@ -16,8 +16,8 @@ use Rattle.hk_spec_streams.proofs.NextFault.{by_bytes, fault_of-before}
 use Rattle.hk_spec_streams.proofs.GrowingPackets.{over, known}
 use Rattle.hk_spec_streams.proofs.GrowingSegments.{packets_short, last_packet-next}
 use Rattle.hk_spec_streams.proofs.GrowingFences.{fence_in}
-use Rattle.hk_station_wire.specs.declared.packet.LengthSize.TheVariants.{Two}
-use Rattle.hk_station_wire.specs.Held.{length_in}
+use Rattle.hk_wire.specs.declared.packet.LengthSize.TheVariants.{Two}
+use Rattle.hk_wire.specs.Held.{length_in}
 use Rattle.hk_station_wire.specs.Steps.{is_kind, head_fault}
 use Rattle.hk_station_wire.proofs.MeetsFault.{met_packet, met_room, true_isnt_false}
 

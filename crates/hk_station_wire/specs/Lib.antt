@@ -1,5 +1,3 @@
-pub mod Held
-pub mod Kept
 pub mod Items
 pub mod Says
 pub mod Steps

@@ -4,8 +4,8 @@ use Rattle.hk_base.specs.declared.plain.WireFault.{WireFault}
 use Rattle.hk_station_wire.specs.declared.item.Item.{Item}
 use Rattle.hk_station_wire.specs.declared.reader.Reader.{Reader}
 use Rattle.hk_station_wire.specs.declared.wire.Wire.{Wire}
-use Rattle.hk_station_wire.specs.Held.{gathered, IsLast, count_of}
-use Rattle.hk_station_wire.specs.Kept.{Keeps}
+use Rattle.hk_wire.specs.Held.{gathered, IsLast, count_of}
+use Rattle.hk_wire.specs.Kept.{Keeps}
 use Rattle.hk_station_wire.specs.Items.{item_of, carries_prints}
 use Rattle.hk_spec_sound.specs.Groups.{rest_of}
 use Rattle.hk_spec_streams.specs.Station.{channels_of, factor_of, station_met}

@@ -3,13 +3,12 @@ ghost use Rattle.std.specs.Prelude.{◌≡◌, ◌≤◌, ◌<◌, ◌+◌, ◌-
 ghost use Rattle.hk_spec_streams.specs.Station.{station_grammar, station_length_fits, factors_for};
 ghost use Rattle.hk_spec_streams.specs.Pieces.{is_one_of};
 ghost use Rattle.hk_spec_streams.specs.Grammar.{ends_at_start};
-ghost use Rattle.hk_station_wire.specs.Held.{gathered, length_size};
-ghost use Rattle.hk_station_wire.specs.declared.packet.LengthSize.TheVariants.{Two};
+ghost use Rattle.hk_wire.specs.Held.{gathered, length_size};
+ghost use Rattle.hk_wire.specs.declared.packet.LengthSize.TheVariants.{Two};
 
-use crate::gathered::Gathered;
 use crate::item::Item;
-use crate::packet::{LastPacket, LengthSize};
 use hk_base::{Form, Print, WireFault};
+use hk_wire::{Gathered, LastPacket, LengthSize};
 
 pub const HELLO_SIZE: u64 = 6;
 

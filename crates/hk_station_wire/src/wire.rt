@@ -3,13 +3,13 @@ ghost use Rattle.std.specs.Prelude.{◌≡◌, ◌≤◌, ◌++◌, ℕ, List, [
 ghost use Rattle.std.specs.Result.{result_err};
 ghost use Rattle.hk_base.specs.declared.plain.WireFault.{WireFault};
 ghost use Rattle.hk_spec_streams.specs.Station.{station_wrong, station_seen};
-ghost use Rattle.hk_station_wire.specs.Held.{count_of};
-ghost use Rattle.hk_station_wire.specs.Kept.{bytes_taken, fault_kept};
+ghost use Rattle.hk_wire.specs.Held.{count_of};
+ghost use Rattle.hk_wire.specs.Kept.{bytes_taken, fault_kept};
 
 use crate::item::Item;
-use crate::passage::Passage;
 use crate::reader::Reader;
 use hk_base::WireFault;
+use hk_wire::Passage;
 
 /// A station's stream as far as it was taken. It keeps its place, its last packet and its fault, and no history.
 #[derive(Debug, Drop)]

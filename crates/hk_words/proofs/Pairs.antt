@@ -1,14 +1,19 @@
 -- What the definitions say of all options, by what the words are one after another.
-use Rattle.std.proofs.Common.{◌≡◌, ℕ, ◌<◌, ◌==◌, ◌≤◌, ◌-◌, length, take, drop, get_or, String, string_bytes, arith, Bool, true, false, not, ◌&&◌, ◌||◌, ◌⊎◌, inl, inr, cond, List, [], ◌∷◌, map, filter, Option, Some, None, is_some, option_map, unwrap_or, find, bytes_eq, refl, sym, ◌∙◌, ap, subst}
+use Rattle.std.proofs.Common.{◌≡◌, ℕ, ◌<◌, ◌==◌, ◌≤◌, ◌-◌, nat_le, length, take, drop, get_or, String, string_bytes, arith, Bool, true, false, not, ◌&&◌, ◌||◌, ◌⊎◌, inl, inr, cond, List, [], ◌∷◌, map, filter, Option, Some, None, is_some, option_map, unwrap_or, find, bytes_eq, refl, sym, ◌∙◌, ap, subst}
 use Rattle.std.specs.List.{list_any, list_all}
 use Rattle.std.specs.Option.{option_map_or, option_and_then}
 use Rattle.std.proofs.Math.Bool.{or-false}
 use Rattle.std.proofs.lemmas.List.{take_all}
-use Rattle.std.proofs.lemmas.Bool.{and_parts, cases_Bool}
+use Rattle.std.proofs.lemmas.Bool.{and_parts, cases_Bool, or_cases, eqb-true, leb-true}
 use Rattle.std.proofs.lemmas.Slice.Eq.{bytes_eq-Decides}
-use Rattle.hk_spec_runs.specs.Words.{Choice, paired, each_once, is_given, options_of, number_of, value_of, stations_choice, flips_choice, hop_choice, songs_choice, positions_choice, versions_choice, bytes_choice, channels_choice, factor_choice}
+use Rattle.hk_spec_sound.specs.Limits.{greatest}
+use Rattle.hk_spec_streams.specs.Pieces.{is_one_of}
+use Rattle.hk_spec_runs.specs.Options as verbs
+use Rattle.hk_spec_runs.specs.Options.{Verb, Choice, Values, Within, OneOf, STATIONS, MADE_STATIONS, FLIPS, HOP, SONGS, POSITIONS, VERSIONS, BYTES, CHANNELS, FACTOR, is_taken, options_for}
+use Rattle.hk_spec_runs.specs.Options.{fits as values_fit}
+use Rattle.hk_spec_runs.specs.Words.{paired, each_once, is_given, options_of, number_of, given_or, default_of}
 use Rattle.hk_words.specs.declared.choice.Choice as Choices
-use Rattle.hk_words.specs.Choices.{choice_of, is_choice, gives}
+use Rattle.hk_words.specs.Choices.{choice_of, is_choice, gives, highest}
 use Rattle.hk_words.specs.Options.{texts, pairs_of, behind, are_options, value_fits, RunValuesFit, PrintValuesFit}
 
 pub any-map : {A B : Type 0} (f : A → B) (t : B → Bool) (xs : List A) → list_any (λ x. t (f x)) xs ≡ list_any t (map f xs)
@@ -87,22 +92,22 @@ behind_further (word ∷ number ∷ words) name next n long first other rest =
     ∙ ap (λ b. cond b (Some (string_bytes number)) (behind (texts words) name)) other
     ∙ ap (λ ws. behind (texts ws) name) (sym (take_all n words (omega (arith, rest))))
 
--- an option's value, by the word behind its name
-pub value-is : (c : Choice) (words : List (List ℕ))
-    → value_of (pairs_of words) c ≡ option_map_or (λ number. unwrap_or (number_of number) 0) (behind words c.name) c.default
-value-is c [] = refl
-value-is c (next ∷ []) = refl
-value-is c (next ∷ number ∷ words) =
-    elim (bytes_eq c.name next) as (λ b.
-    option_map_or (λ p. unwrap_or (number_of p.1) 0) (cond b (Some (next, number)) (find (λ p. bytes_eq c.name p.0) (pairs_of words))) c.default
-    ≡ option_map_or (λ n. unwrap_or (number_of n) 0) (cond b (Some number) (behind words c.name)) c.default) [ true ↦ refl | false ↦ value-is c words ]
+-- the number that is given with a name, by the word behind it
+pub given_or-is : (words : List (List ℕ)) (name : List ℕ) (n : ℕ)
+    → given_or (pairs_of words) name n ≡ option_map_or (λ number. unwrap_or (number_of number) 0) (behind words name) n
+given_or-is [] name n = refl
+given_or-is (next ∷ []) name n = refl
+given_or-is (next ∷ number ∷ words) name n =
+    elim (bytes_eq name next) as (λ b.
+    option_map_or (λ p. unwrap_or (number_of p.1) 0) (cond b (Some (next, number)) (find (λ p. bytes_eq name p.0) (pairs_of words))) n
+    ≡ option_map_or (λ m. unwrap_or (number_of m) 0) (cond b (Some number) (behind words name)) n) [ true ↦ refl | false ↦ given_or-is words name n ]
 
-pub value_found : (c : Choice) (words : List (List ℕ)) (number : List ℕ) → Some number ≡ behind words c.name
-    → unwrap_or (number_of number) 0 ≡ value_of (pairs_of words) c
-value_found c words number found = ap (λ o. option_map_or (λ n. unwrap_or (number_of n) 0) o c.default) found ∙ sym (value-is c words)
+pub given_found : (words : List (List ℕ)) (name : List ℕ) (n : ℕ) (number : List ℕ) → Some number ≡ behind words name
+    → unwrap_or (number_of number) 0 ≡ given_or (pairs_of words) name n
+given_found words name n number found = ap (λ o. option_map_or (λ m. unwrap_or (number_of m) 0) o n) found ∙ sym (given_or-is words name n)
 
-pub value_missing : (c : Choice) (words : List (List ℕ)) → None ≡ behind words c.name → c.default ≡ value_of (pairs_of words) c
-value_missing c words missing = ap (λ o. option_map_or (λ n. unwrap_or (number_of n) 0) o c.default) missing ∙ sym (value-is c words)
+pub given_missing : (words : List (List ℕ)) (name : List ℕ) (n : ℕ) → None ≡ behind words name → n ≡ given_or (pairs_of words) name n
+given_missing words name n missing = ap (λ o. option_map_or (λ m. unwrap_or (number_of m) 0) o n) missing ∙ sym (given_or-is words name n)
 
 picked : {A : Type 0} (t f : A → Bool) (xs : List A) → list_any (λ x. t x && f x) xs ≡ list_any f (filter t xs)
 picked t f [] = refl
@@ -115,9 +120,9 @@ abbrev pub IsAlone : List Choice → Choice → Type 0
 IsAlone choices c = (filter (λ d. bytes_eq d.name c.name) choices ≡ c ∷ []) ⊎ (filter (λ d. bytes_eq d.name c.name) choices ≡ [])
 
 taken : (choices : List Choice) (c : Choice) (number : List ℕ) → IsAlone choices c → is_given choices (c.name, number) ≡ true
-    → option_map_or c.fits (number_of number) false ≡ true
+    → option_map_or (values_fit c.values) (number_of number) false ≡ true
 taken choices c number alone given =
-    let fit : Choice → Bool = λ d. option_map_or d.fits (number_of number) false in
+    let fit : Choice → Bool = λ d. option_map_or (values_fit d.values) (number_of number) false in
     let found : list_any fit (filter (λ d. bytes_eq d.name c.name) choices) ≡ true = sym (picked (λ d. bytes_eq d.name c.name) fit choices) ∙ given in
     elim alone [
       | inl one ↦ sym (or-false (fit c)) ∙ ap (list_any fit) (sym one) ∙ found
@@ -125,62 +130,86 @@ taken choices c number alone given =
     ]
 
 -- the options that a name and a number may be, as the definitions have them
-pub given-is : (name number : List ℕ) (choices : List Choices.Choice) → list_any (gives name number) choices ≡ is_given (map choice_of choices) (name, number)
+pub given-is : (verb : Verb) (name number : List ℕ) (choices : List Choices.Choice)
+    → list_any (gives verb name number) choices ≡ is_given (filter (is_taken verb) (map choice_of choices)) (name, number)
 unfolding gives
-given-is name number choices = any-map choice_of (is_choice (name, number)) choices
+given-is verb name number choices =
+    any-map choice_of (λ c. is_taken verb c && is_choice (name, number) c) choices
+    ∙ picked (is_taken verb) (is_choice (name, number)) (map choice_of choices)
+
+-- a value is in its option's range, where the word behind its name is, and else its default
+value_in : (f : ℕ → Bool) (d : ℕ) (word : Option (List ℕ)) → option_map_or (λ n. option_map_or f (number_of n) false) word (f d) ≡ true
+    → f (option_map_or (λ n. unwrap_or (number_of n) 0) word d) ≡ true
+value_in f d None fit = fit
+value_in f d (Some word) fit = by (number_of word) fit
+  where
+    by : (o : Option ℕ) → option_map_or f o false ≡ true → f (unwrap_or o 0) ≡ true
+    by (Some n) fit = fit
+    by None fit = absurd (let no : false ≡ true = fit in cc)
 
 -- in words that are options each value fits
-fits : (choices : List Choice) (c : Choice) (words : List (List ℕ)) → IsAlone choices c → c.fits c.default ≡ true → are_options choices words ≡ true
-    → value_fits words c ≡ true
-fits choices c [] alone default are = default
-fits choices c (next ∷ []) alone default are = default
-fits choices c (next ∷ number ∷ words) alone default are =
-    let both = and_parts (is_given choices (next, number)) (not (is_some (behind words next)) && are_options choices words) are in
-    let further = and_parts (not (is_some (behind words next))) (are_options choices words) both.1 in
-    let value : Bool → Bool = λ b. option_map_or (λ n. option_map_or c.fits (number_of n) false) (cond b (Some number) (behind words c.name)) (c.fits c.default) in
-    elim (cases_Bool (bytes_eq c.name next)) [
-      | inl same ↦
-          let name : next ≡ c.name = sym ((bytes_eq-Decides c.name next).0 same) in
-          ap value same ∙ taken choices c number alone (subst (λ n. is_given choices (n, number) ≡ true) name both.0)
-      | inr other ↦ ap value other ∙ fits choices c words alone default further.1
-    ]
+module _ (choices : List Choice) (c : Choice) (d : ℕ) (alone : IsAlone choices c) (default : values_fit c.values d ≡ true) where
+  given_fits : (words : List (List ℕ)) → are_options choices words ≡ true
+      → option_map_or (λ n. option_map_or (values_fit c.values) (number_of n) false) (behind words c.name) (values_fit c.values d) ≡ true
+  given_fits [] are = default
+  given_fits (next ∷ []) are = default
+  given_fits (next ∷ number ∷ words) are =
+      let both = and_parts (is_given choices (next, number)) (not (is_some (behind words next)) && are_options choices words) are in
+      let further = and_parts (not (is_some (behind words next))) (are_options choices words) both.1 in
+      let value : Bool → Bool = λ b. option_map_or (λ n. option_map_or (values_fit c.values) (number_of n) false) (cond b (Some number) (behind words c.name)) (values_fit c.values d) in
+      elim (cases_Bool (bytes_eq c.name next)) [
+        | inl same ↦
+            let name : next ≡ c.name = sym ((bytes_eq-Decides c.name next).0 same) in
+            ap value same ∙ taken choices c number alone (subst (λ n. is_given choices (n, number) ≡ true) name both.0)
+        | inr other ↦ ap value other ∙ given_fits words further.1
+      ]
 
--- the values of each command's options
-abbrev pub REPLAY : List Choice
-REPLAY = stations_choice 1 ∷ flips_choice ∷ hop_choice ∷ songs_choice ∷ positions_choice ∷ versions_choice ∷ bytes_choice ∷ []
+  value_fits_as : (words : List (List ℕ)) → are_options choices words ≡ true → values_fit c.values (given_or (pairs_of words) c.name d) ≡ true
+  value_fits_as words are = ap (values_fit c.values) (given_or-is words c.name d) ∙ value_in (values_fit c.values) d (behind words c.name) (given_fits words are)
 
-abbrev pub PRINT : List Choice
-PRINT = channels_choice ∷ factor_choice ∷ flips_choice ∷ bytes_choice ∷ []
+-- an option whose default is a number
+fits : (choices : List Choice) (c : Choice) (words : List (List ℕ)) → IsAlone choices c → values_fit c.values (default_of (pairs_of words) c.default) ≡ true
+    → are_options choices words ≡ true → value_fits words c ≡ true
+fits choices c words alone default are = value_fits_as choices c (default_of (pairs_of words) c.default) alone default words are
 
-abbrev pub MAKE : List Choice
-MAKE = stations_choice 4 ∷ flips_choice ∷ hop_choice ∷ []
-
-pub replay_values : (words : List (List ℕ)) → are_options REPLAY words ≡ true → RunValuesFit words 1
+pub replay_values : (words : List (List ℕ)) → are_options (options_for verbs.Replay) words ≡ true → RunValuesFit words STATIONS
 replay_values words are = record {
-  stations = fits REPLAY (stations_choice 1) words (inl refl) refl are;
-  flips = fits REPLAY flips_choice words (inl refl) refl are;
-  hop = fits REPLAY hop_choice words (inl refl) refl are;
-  songs = fits REPLAY songs_choice words (inl refl) refl are;
-  positions = fits REPLAY positions_choice words (inl refl) refl are;
-  versions = fits REPLAY versions_choice words (inl refl) refl are;
-  bytes = fits REPLAY bytes_choice words (inl refl) refl are;
+  stations = fits (options_for verbs.Replay) STATIONS words (inl refl) refl are;
+  flips = fits (options_for verbs.Replay) FLIPS words (inl refl) refl are;
+  hop = fits (options_for verbs.Replay) HOP words (inl refl) refl are;
+  songs = fits (options_for verbs.Replay) SONGS words (inl refl) refl are;
+  positions = fits (options_for verbs.Replay) POSITIONS words (inl refl) refl are;
+  versions = fits (options_for verbs.Replay) VERSIONS words (inl refl) refl are;
+  bytes = fits (options_for verbs.Replay) BYTES words (inl refl) refl are;
 }
 
-pub make_values : (words : List (List ℕ)) → are_options MAKE words ≡ true → RunValuesFit words 4
+pub make_values : (words : List (List ℕ)) → are_options (options_for verbs.Make) words ≡ true → RunValuesFit words MADE_STATIONS
 make_values words are = record {
-  stations = fits MAKE (stations_choice 4) words (inl refl) refl are;
-  flips = fits MAKE flips_choice words (inl refl) refl are;
-  hop = fits MAKE hop_choice words (inl refl) refl are;
-  songs = fits MAKE songs_choice words (inr refl) refl are;
-  positions = fits MAKE positions_choice words (inr refl) refl are;
-  versions = fits MAKE versions_choice words (inr refl) refl are;
-  bytes = fits MAKE bytes_choice words (inr refl) refl are;
+  stations = fits (options_for verbs.Make) MADE_STATIONS words (inl refl) refl are;
+  flips = fits (options_for verbs.Make) FLIPS words (inl refl) refl are;
+  hop = fits (options_for verbs.Make) HOP words (inl refl) refl are;
+  songs = fits (options_for verbs.Make) SONGS words (inr refl) refl are;
+  positions = fits (options_for verbs.Make) POSITIONS words (inr refl) refl are;
+  versions = fits (options_for verbs.Make) VERSIONS words (inr refl) refl are;
+  bytes = fits (options_for verbs.Make) BYTES words (inr refl) refl are;
 }
 
-pub print_values : (words : List (List ℕ)) → are_options PRINT words ≡ true → PrintValuesFit words
+pub print_values : (words : List (List ℕ)) → are_options (options_for verbs.Print) words ≡ true → PrintValuesFit words
 print_values words are = record {
-  channels = fits PRINT channels_choice words (inl refl) refl are;
-  factor = fits PRINT factor_choice words (inl refl) refl are;
-  flips = fits PRINT flips_choice words (inl refl) refl are;
-  bytes = fits PRINT bytes_choice words (inl refl) refl are;
+  channels = fits (options_for verbs.Print) CHANNELS words (inl refl) refl are;
+  factor = fits (options_for verbs.Print) FACTOR words (inl refl) refl are;
+  flips = fits (options_for verbs.Print) FLIPS words (inl refl) refl are;
+  bytes = fits (options_for verbs.Print) BYTES words (inl refl) refl are;
 }
+
+-- a value that fits is at most the greatest
+among_most : (numbers : List ℕ) (n : ℕ) → is_one_of numbers n ≡ true → n ≤ greatest numbers
+among_most [] n is = absurd (let no : false ≡ true = is in cc)
+among_most (m ∷ numbers) n is = elim (or_cases (m == n) (is_one_of numbers n) is) [
+  | inl same ↦ let e : m ≡ n = eqb-true m n same in omega (arith, e)
+  | inr further ↦ let below : n ≤ greatest numbers = among_most numbers n further in omega (arith, below)
+]
+
+pub most : (values : Values) (n : ℕ) → values_fit values n ≡ true → n ≤ highest values
+most (Within range) n fit = leb-true n range.most (and_parts (nat_le range.least n) (nat_le n range.most) fit).1
+most (OneOf numbers) n fit = among_most numbers n fit

@@ -1,32 +1,50 @@
 -- The options as the definitions have them.
-use Rattle.std.specs.Prelude.{ℕ, Bool, false, ◌&&◌, List, [], ◌∷◌, max, bytes_eq}
+use Rattle.std.specs.Prelude.{ℕ, Bool, false, ◌&&◌, List, bytes_eq}
 use Rattle.std.specs.Option.{option_map_or}
-use Rattle.hk_spec_streams.specs.Pieces.{is_one_of}
+use Rattle.hk_limits.specs.Ranges.{range_meant}
+use Rattle.hk_spec_sound.specs.Limits.{CHANNELS, FACTORS, greatest}
+use Rattle.hk_spec_runs.specs.Options as options
 use Rattle.hk_spec_runs.specs.Words as words
 use Rattle.hk_words.specs.declared.choice.Values.{Values}
-use Rattle.hk_words.specs.declared.choice.Values.TheVariants.{Between, OneOf}
+use Rattle.hk_words.specs.declared.choice.Values.TheVariants.{Within, Channels, Factors}
+use Rattle.hk_words.specs.declared.choice.Default.{Default}
+use Rattle.hk_words.specs.declared.choice.Default.TheVariants.{Number, ValueOf}
+use Rattle.hk_words.specs.declared.choice.Verb.{Verb}
+use Rattle.hk_words.specs.declared.choice.Verb.TheVariants.{Replay, Print, Make}
 use Rattle.hk_words.specs.declared.choice.Choice.{Choice}
 
-abbrev pub values_fit : Values → ℕ → Bool
-values_fit (Between low high) = words.between low high
-values_fit (OneOf a b c d) = is_one_of (a ∷ b ∷ c ∷ d ∷ [])
+abbrev pub values_meant : Values → options.Values
+values_meant (Within range) = options.Within (range_meant range)
+values_meant Channels = options.OneOf CHANNELS
+values_meant Factors = options.OneOf FACTORS
 
-abbrev pub choice_of : Choice → words.Choice
-choice_of c = record { name = c.name.now; fits = values_fit c.values; default = c.default }
+abbrev pub default_meant : Default → options.Default
+default_meant (Number n) = options.Number n
+default_meant (ValueOf name n) = options.ValueOf name.now n
 
--- whether a name and a number are this option with a value that fits
-abbrev pub is_choice : List ℕ × List ℕ → words.Choice → Bool
-is_choice pair c = bytes_eq c.name pair.0 && option_map_or c.fits (words.number_of pair.1) false
+abbrev pub verb_meant : Verb → options.Verb
+verb_meant Replay = options.Replay
+verb_meant Print = options.Print
+verb_meant Make = options.Make
 
-unfoldable pub gives : List ℕ → List ℕ → Choice → Bool
-gives name number c = is_choice (name, number) (choice_of c)
+abbrev pub choice_of : Choice → options.Choice
+choice_of c = record {
+  name = c.name.now;
+  values = values_meant c.values;
+  default = default_meant c.default;
+  replay = c.replay;
+  print = c.print;
+  make = c.make;
+}
 
--- the greatest of some numbers, 0 where there are none
-abbrev pub greatest : List ℕ → ℕ
-greatest [] = 0
-greatest (n ∷ ns) = max n (greatest ns)
+-- whether a name and a number are this option with a value that it may have
+abbrev pub is_choice : List ℕ × List ℕ → options.Choice → Bool
+is_choice pair c = bytes_eq c.name pair.0 && option_map_or (options.fits c.values) (words.number_of pair.1) false
+
+unfoldable pub gives : options.Verb → List ℕ → List ℕ → Choice → Bool
+gives verb name number c = options.is_taken verb (choice_of c) && is_choice (name, number) (choice_of c)
 
 -- the greatest value
-abbrev pub highest : Values → ℕ
-highest (Between low high) = high
-highest (OneOf a b c d) = greatest (a ∷ b ∷ c ∷ d ∷ [])
+abbrev pub highest : options.Values → ℕ
+highest (options.Within range) = range.most
+highest (options.OneOf numbers) = greatest numbers

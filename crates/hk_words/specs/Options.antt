@@ -1,7 +1,7 @@
 -- Options word by word.
 use Rattle.std.specs.Prelude.{◌≡◌, ℕ, Bool, false, true, not, ◌&&◌, if◌then◌else◌, List, [], ◌∷◌, map, Option, Some, None, is_some, String, string_bytes, bytes_eq}
-use Rattle.std.specs.Option.{option_map_or}
-use Rattle.hk_spec_runs.specs.Words.{Choice, is_given, number_of, stations_choice, flips_choice, hop_choice, songs_choice, positions_choice, versions_choice, bytes_choice, channels_choice, factor_choice}
+use Rattle.hk_spec_runs.specs.Options.{Choice, FLIPS, HOP, SONGS, POSITIONS, VERSIONS, BYTES, CHANNELS, FACTOR, fits}
+use Rattle.hk_spec_runs.specs.Words.{is_given, value_of}
 
 -- the words' bytes
 abbrev pub texts : {A : Type 0} → List (String A) → List (List ℕ)
@@ -26,23 +26,23 @@ are_options choices (name ∷ []) = false
 are_options choices (name ∷ number ∷ words) =
     is_given choices (name, number) && (not (is_some (behind words name)) && are_options choices words)
 
--- whether an option's value fits, given or not
+-- whether an option's value, given or not, is one that it may have
 abbrev pub value_fits : List (List ℕ) → Choice → Bool
-value_fits words c = option_map_or (λ number. option_map_or c.fits (number_of number) false) (behind words c.name) (c.fits c.default)
+value_fits words c = fits c.values (value_of (pairs_of words) c)
 
 -- the value of each option of a run fits
-pub record RunValuesFit (words : List (List ℕ)) (default : ℕ) : Type 0 where
-  pub stations : value_fits words (stations_choice default) ≡ true
-  pub flips : value_fits words flips_choice ≡ true
-  pub hop : value_fits words hop_choice ≡ true
-  pub songs : value_fits words songs_choice ≡ true
-  pub positions : value_fits words positions_choice ≡ true
-  pub versions : value_fits words versions_choice ≡ true
-  pub bytes : value_fits words bytes_choice ≡ true
+pub record RunValuesFit (words : List (List ℕ)) (chosen : Choice) : Type 0 where
+  pub stations : value_fits words chosen ≡ true
+  pub flips : value_fits words FLIPS ≡ true
+  pub hop : value_fits words HOP ≡ true
+  pub songs : value_fits words SONGS ≡ true
+  pub positions : value_fits words POSITIONS ≡ true
+  pub versions : value_fits words VERSIONS ≡ true
+  pub bytes : value_fits words BYTES ≡ true
 
 -- the value of each option of `print` fits
 pub record PrintValuesFit (words : List (List ℕ)) : Type 0 where
-  pub channels : value_fits words channels_choice ≡ true
-  pub factor : value_fits words factor_choice ≡ true
-  pub flips : value_fits words flips_choice ≡ true
-  pub bytes : value_fits words bytes_choice ≡ true
+  pub channels : value_fits words CHANNELS ≡ true
+  pub factor : value_fits words FACTOR ≡ true
+  pub flips : value_fits words FLIPS ≡ true
+  pub bytes : value_fits words BYTES ≡ true

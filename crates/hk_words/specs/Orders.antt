@@ -1,9 +1,10 @@
 -- An order as the definitions have it.
-use Rattle.std.specs.Prelude.{◌≡◌, ℕ, ◌≤◌, true, [], ◌∷◌}
+use Rattle.std.specs.Prelude.{◌≡◌, true}
 use Rattle.hk_spec_sound.specs.Prints.{full_analysis}
+use Rattle.hk_spec_sound.specs.Limits.{IsInRange, CHANNELS, FACTORS, FLIPS, HOP, STATIONS, SONGS, POSITIONS, VERSIONS, BYTES, SEED}
 use Rattle.hk_spec_streams.specs.Pieces.{is_one_of}
 use Rattle.hk_spec_matching.specs.Matching.{MOST_ERRORS}
-use Rattle.hk_spec_runs.specs.Desk.{Rules}
+use Rattle.hk_spec_settings.specs.Settings.{Rules}
 use Rattle.hk_spec_runs.specs.Words as words
 use Rattle.hk_words.specs.declared.order.RunRules.{RunRules}
 use Rattle.hk_words.specs.declared.order.PrintRules.{PrintRules}
@@ -28,27 +29,24 @@ order_meant (Replay rules) = words.Replay (rules_meant rules)
 order_meant (Print rules) = words.Print (printing_meant rules)
 order_meant (Make seed rules) = words.Make seed (rules_meant rules)
 
-abbrev pub IsWithin : ℕ → ℕ → ℕ → Type 0
-IsWithin low high n = (low ≤ n) × (n ≤ high)
-
 -- the ranges of a run's rules
 pub record RulesFit (r : RunRules) : Type 0 where
-  pub stations : IsWithin 1 64 r.stations
-  pub flips : IsWithin 0 10 r.flips
-  pub hop : IsWithin 1 256 r.hop
-  pub songs : IsWithin 1 65536 r.songs
-  pub positions : IsWithin 256 16777216 r.positions
-  pub versions : IsWithin 1 1000000000 r.versions
-  pub bytes : IsWithin 1 4000000000000000000 r.bytes
+  pub stations : IsInRange STATIONS r.stations
+  pub flips : IsInRange FLIPS r.flips
+  pub hop : IsInRange HOP r.hop
+  pub songs : IsInRange SONGS r.songs
+  pub positions : IsInRange POSITIONS r.positions
+  pub versions : IsInRange VERSIONS r.versions
+  pub bytes : IsInRange BYTES r.bytes
 
 -- the ranges of the sound that is printed
 pub record PrintingFits (p : PrintRules) : Type 0 where
-  pub channels : IsWithin 1 2 p.channels
-  pub factor : is_one_of (1 ∷ 2 ∷ 4 ∷ 8 ∷ []) p.factor ≡ true
-  pub flips : IsWithin 0 10 p.flips
-  pub bytes : IsWithin 1 4000000000000000000 p.bytes
+  pub channels : is_one_of CHANNELS p.channels ≡ true
+  pub factor : is_one_of FACTORS p.factor ≡ true
+  pub flips : IsInRange FLIPS p.flips
+  pub bytes : IsInRange BYTES p.bytes
 
 abbrev pub OrderFits : Order → Type 0
 OrderFits (Replay rules) = RulesFit rules
 OrderFits (Print rules) = PrintingFits rules
-OrderFits (Make seed rules) = (seed ≤ 2147483647) × RulesFit rules
+OrderFits (Make seed rules) = IsInRange SEED seed × RulesFit rules

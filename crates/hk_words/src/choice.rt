@@ -1,124 +1,196 @@
-// The options, each with the values that it may have and its value where it isn't given.
+// The options, one row an option.
 ghost use Rattle.std.specs.Prelude.{◌≡◌, false};
 ghost use Rattle.std.specs.Option.{option_map_or};
+ghost use Rattle.hk_spec_runs.specs.Options.{fits, is_taken};
 ghost use Rattle.hk_spec_runs.specs.Words.{number_of};
-ghost use Rattle.hk_words.specs.Choices.{choice_of, gives};
+ghost use Rattle.hk_words.specs.Choices.{values_meant, verb_meant, choice_of, gives};
 
 use crate::number::read_number;
+use hk_limits::{Range, allows_channels, allows_factor};
 
 /// The values that an option may have.
 #[derive(Clone, Copy)]
 pub enum Values {
-    /// From one number to another, both among them.
-    Between(u64, u64),
-    /// One of these four numbers.
-    OneOf(u64, u64, u64, u64),
+    /// Those of a range.
+    Within(Range),
+    /// The channels that sound may have.
+    Channels,
+    /// The factors by which sound may be decimated.
+    Factors,
 }
 
-/// An option of the command line.
+/// The value of an option that isn't given.
+#[derive(Clone, Copy)]
+pub enum Default {
+    Number(u64),
+    /// The value of the option with this name, and a number where that isn't given either.
+    ValueOf(&'static str, u64),
+}
+
+/// A command.
+#[derive(Clone, Copy)]
+pub enum Verb {
+    Replay,
+    Print,
+    Make,
+}
+
+/// An option of the command line, and whether each command takes it.
 #[derive(Clone, Copy)]
 pub struct Choice {
     pub name: &'static str,
     pub values: Values,
-    pub default: u64,
+    pub default: Default,
+    pub replay: bool,
+    pub print: bool,
+    pub make: bool,
 }
 
 pub const STATIONS: Choice = Choice {
     name: "--stations",
-    values: Values::Between(1, 64),
-    default: 1,
+    values: Values::Within(hk_limits::STATIONS),
+    default: Default::Number(1),
+    replay: true,
+    print: false,
+    make: false,
 };
 
 /// The same for `make`.
 pub const MADE_STATIONS: Choice = Choice {
     name: "--stations",
-    values: Values::Between(1, 64),
-    default: 4,
+    values: Values::Within(hk_limits::STATIONS),
+    default: Default::Number(4),
+    replay: false,
+    print: false,
+    make: true,
 };
 
 pub const FLIPS: Choice = Choice {
     name: "--flips",
-    values: Values::Between(0, 10),
-    default: 4,
+    values: Values::Within(hk_limits::FLIPS),
+    default: Default::Number(4),
+    replay: true,
+    print: true,
+    make: true,
 };
 
 pub const HOP: Choice = Choice {
     name: "--hop",
-    values: Values::Between(1, 256),
-    default: 64,
+    values: Values::Within(hk_limits::HOP),
+    default: Default::Number(64),
+    replay: true,
+    print: false,
+    make: true,
 };
 
 pub const SONGS: Choice = Choice {
     name: "--songs",
-    values: Values::Between(1, 65536),
-    default: 1000,
+    values: Values::Within(hk_limits::SONGS),
+    default: Default::Number(1000),
+    replay: true,
+    print: false,
+    make: false,
 };
 
 pub const POSITIONS: Choice = Choice {
     name: "--positions",
-    values: Values::Between(256, 16777216),
-    default: 1048576,
+    values: Values::Within(hk_limits::POSITIONS),
+    default: Default::Number(1048576),
+    replay: true,
+    print: false,
+    make: false,
 };
 
 pub const VERSIONS: Choice = Choice {
     name: "--versions",
-    values: Values::Between(1, 1000000000),
-    default: 1000000,
+    values: Values::Within(hk_limits::VERSIONS),
+    default: Default::Number(1000000),
+    replay: true,
+    print: false,
+    make: false,
 };
 
 pub const BYTES: Choice = Choice {
     name: "--bytes",
-    values: Values::Between(1, 4000000000000000000),
-    default: 1000000000000,
+    values: Values::Within(hk_limits::BYTES),
+    default: Default::Number(1000000000000),
+    replay: true,
+    print: true,
+    make: false,
 };
 
 pub const CHANNELS: Choice = Choice {
     name: "--channels",
-    values: Values::Between(1, 2),
-    default: 1,
+    values: Values::Channels,
+    default: Default::Number(1),
+    replay: false,
+    print: true,
+    make: false,
 };
 
 pub const FACTOR: Choice = Choice {
     name: "--factor",
-    values: Values::OneOf(1, 2, 4, 8),
-    default: 8,
+    values: Values::Factors,
+    default: Default::Number(8),
+    replay: false,
+    print: true,
+    make: false,
 };
 
-/// The options of `replay`.
-pub const REPLAY_CHOICES: [Choice; 7] = [STATIONS, FLIPS, HOP, SONGS, POSITIONS, VERSIONS, BYTES];
+/// The options of all commands.
+pub const OPTIONS: [Choice; 10] = [
+    STATIONS,
+    MADE_STATIONS,
+    FLIPS,
+    HOP,
+    SONGS,
+    POSITIONS,
+    VERSIONS,
+    BYTES,
+    CHANNELS,
+    FACTOR,
+];
 
-/// The options of `print`.
-pub const PRINT_CHOICES: [Choice; 4] = [CHANNELS, FACTOR, FLIPS, BYTES];
-
-/// The options of `make`.
-pub const MAKE_CHOICES: [Choice; 3] = [MADE_STATIONS, FLIPS, HOP];
+impl Values {
+    /// Whether a value is one of these.
+    pub fn hold(&self, value: u64) -> bool
+        ensures { result ≡ fits (values_meant self.now) value }
+    {
+        match self {
+            Values::Within(range) => range.holds(value),
+            Values::Channels => allows_channels(value),
+            Values::Factors => allows_factor(value),
+        }
+    }
+}
 
 impl Choice {
-    /// Whether the option may have this value.
-    pub fn fits(&self, value: u64) -> bool
-        ensures { result ≡ (choice_of self.now).fits value }
+    /// Whether a command takes the option.
+    pub fn is_taken(&self, verb: Verb) -> bool
+        ensures { result ≡ is_taken (verb_meant verb) (choice_of self.now) }
     {
-        match self.values {
-            Values::Between(low, high) => low <= value && value <= high,
-            Values::OneOf(a, b, c, d) => a == value || b == value || c == value || d == value,
+        match verb {
+            Verb::Replay => self.replay,
+            Verb::Print => self.print,
+            Verb::Make => self.make,
         }
     }
 
-    /// Whether the word is a number that the option may have.
-    fn takes(&self, word: &str) -> bool
-        ensures { result ≡ option_map_or (choice_of self.now).fits (number_of word.now) false }
+    // Whether the word is a number that the option may have.
+    fn allows(&self, word: &str) -> bool
+        ensures { result ≡ option_map_or (fits (choice_of self.now).values) (number_of word.now) false }
     {
         match read_number(word) {
-            Some(value) => self.fits(value),
+            Some(value) => self.values.hold(value),
             None => false,
         }
     }
 
-    /// Whether the words are the option's name and a number that it may have.
+    /// Whether the words are the name of an option that a command takes, and a number that it may have.
     #[tactic(auto, unfolding(crate::specs::Choices::gives))]
-    pub fn is_given(&self, name: &str, number: &str) -> bool
-        ensures { result ≡ gives name.now number.now self.now }
+    pub fn is_given(&self, verb: Verb, name: &str, number: &str) -> bool
+        ensures { result ≡ gives (verb_meant verb) name.now number.now self.now }
     {
-        self.name == name && self.takes(number)
+        self.is_taken(verb) && self.name == name && self.allows(number)
     }
 }

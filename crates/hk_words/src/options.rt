@@ -1,19 +1,20 @@
 // Options in the words: two words each, a name and a number.
-ghost use Rattle.std.specs.Prelude.{◌≡◌, ◌≤◌, map, true, option_copied};
-ghost use Rattle.hk_spec_runs.specs.Words.{is_given, value_of};
-ghost use Rattle.hk_words.specs.Choices.{choice_of, highest};
+ghost use Rattle.std.specs.Prelude.{◌≡◌, ◌≤◌, true, map, filter, option_copied};
+ghost use Rattle.hk_spec_runs.specs.Options.{fits, is_taken, options_for};
+ghost use Rattle.hk_spec_runs.specs.Words.{is_given, given_or, default_of, value_of};
+ghost use Rattle.hk_words.specs.Choices.{verb_meant, default_meant, choice_of, highest};
 ghost use Rattle.hk_words.specs.Options.{texts, pairs_of, behind, are_options, value_fits};
 
-use crate::choice::Choice;
+use crate::choice::{Choice, Default, OPTIONS, Verb};
 use crate::number::read_number;
 
-/// Whether the words are options of these, each with a value that it may have, and none twice.
-pub fn are_options(words: &[String], choices: &[Choice]) -> bool
-    ensures { result ≡ are_options (map choice_of choices.now) (texts words.now) }
+/// Whether the words are options that a command takes, each with a value that it may have, and none twice.
+pub fn are_options(words: &[String], verb: Verb) -> bool
+    ensures { result ≡ are_options (options_for (verb_meant verb)) (texts words.now) }
 {
     let mut rest = words;
     while let [name, number, further @ ..] = rest {
-        let is_given = is_given(choices, name.as_str(), number.as_str());
+        let is_given = is_given(&OPTIONS, verb, name.as_str(), number.as_str());
         if !is_given || number_behind(further, name.as_str()).is_some() {
             return false;
         }
@@ -26,20 +27,41 @@ pub fn are_options(words: &[String], choices: &[Choice]) -> bool
 pub fn value(words: &[String], choice: &Choice) -> u64
     requires fits { value_fits (texts words.now) (choice_of choice.now) ≡ true }
     ensures value { result ≡ value_of (pairs_of (texts words.now)) (choice_of choice.now) }
-    ensures fits { (choice_of choice.now).fits result ≡ true }
-    ensures most { result ≤ highest choice.now.values }
+    ensures fits { fits (choice_of choice.now).values result ≡ true }
+    ensures most { result ≤ highest (choice_of choice.now).values }
 {
-    match number_behind(words, choice.name) {
-        Some(number) => read_number(number).unwrap_or(0),
-        None => choice.default,
+    given_or(words, choice.name, choice.default.value(words))
+}
+
+impl Default {
+    // The value where the option isn't given.
+    fn value(&self, words: &[String]) -> u64
+        ensures { result ≡ default_of (pairs_of (texts words.now)) (default_meant self.now) }
+    {
+        match *self {
+            Default::Number(number) => number,
+            Default::ValueOf(name, number) => given_or(words, name, number),
+        }
     }
 }
 
-// Whether a name and a number are one of the options with a value that it may have.
-fn is_given(choices: &[Choice], name: &str, number: &str) -> bool
-    ensures { result ≡ is_given (map choice_of choices.now) (name.now, number.now) }
+// The number behind a name, and else this one.
+fn given_or(words: &[String], name: &str, number: u64) -> u64
+    ensures { result ≡ given_or (pairs_of (texts words.now)) name.now number }
 {
-    choices.iter().any(|choice| choice.is_given(name, number))
+    match number_behind(words, name) {
+        Some(given) => read_number(given).unwrap_or(0),
+        None => number,
+    }
+}
+
+// Whether a name and a number are one of the options that a command takes, with a value that it may have.
+fn is_given(options: &[Choice], verb: Verb, name: &str, number: &str) -> bool
+    ensures { result ≡ is_given (filter (is_taken (verb_meant verb)) (map choice_of options.now)) (name.now, number.now) }
+{
+    options
+        .iter()
+        .any(|choice| choice.is_given(verb, name, number))
 }
 
 // The number's word of the first option with this name.

@@ -1,19 +1,18 @@
 // What the words ask for.
 ghost use Rattle.std.specs.Prelude.{◌≡◌, ℕ, List, ◌∷◌, codes, Some, option_map, IfSome};
-ghost use Rattle.hk_spec_runs.specs.Words.{number_of, stations_choice, rules_of, printing_of, order_for, make_for, order_of};
-ghost use Rattle.hk_words.specs.Choices.{choice_of, highest};
+ghost use Rattle.hk_spec_runs.specs.Words.{number_of, rules_of, printing_of, order_for, make_for, order_of};
+ghost use Rattle.hk_spec_sound.specs.Limits as limits;
+ghost use Rattle.hk_spec_runs.specs.Options.{Within};
+ghost use Rattle.hk_words.specs.Choices.{choice_of};
 ghost use Rattle.hk_words.specs.Options.{texts, pairs_of, RunValuesFit, PrintValuesFit};
 ghost use Rattle.hk_words.specs.Orders.{rules_meant, printing_meant, order_meant, RulesFit, PrintingFits, OrderFits};
 
 use crate::choice::{
-    BYTES, CHANNELS, Choice, FACTOR, FLIPS, HOP, MADE_STATIONS, MAKE_CHOICES, POSITIONS,
-    PRINT_CHOICES, REPLAY_CHOICES, SONGS, STATIONS, VERSIONS,
+    BYTES, CHANNELS, Choice, FACTOR, FLIPS, HOP, MADE_STATIONS, POSITIONS, SONGS, STATIONS, VERSIONS,
+    Verb,
 };
 use crate::number::read_number;
 use crate::options::{are_options, value};
-
-// The greatest seed of `make`.
-const MOST_SEED: u64 = 2147483647;
 
 /// What a run is set to: its number of stations, the bits of a print that may be weak, prints from a block to the next, and
 /// the limits of songs, of words of all songs, of versions, and of a stream's bytes.
@@ -80,7 +79,7 @@ fn read_replay(words: &[String]) -> Option<Order>
     ensures order { option_map order_meant result ≡ order_for (codes "replay") (texts words.now) }
     ensures ranges { IfSome result OrderFits }
 {
-    if are_options(words, &REPLAY_CHOICES) {
+    if are_options(words, Verb::Replay) {
         Some(Order::Replay(run_rules(words, &STATIONS)))
     } else {
         None
@@ -91,7 +90,7 @@ fn read_print(words: &[String]) -> Option<Order>
     ensures order { option_map order_meant result ≡ order_for (codes "print") (texts words.now) }
     ensures ranges { IfSome result OrderFits }
 {
-    if are_options(words, &PRINT_CHOICES) {
+    if are_options(words, Verb::Print) {
         Some(Order::Print(print_rules(words)))
     } else {
         None
@@ -114,7 +113,7 @@ fn made(seed: u64, words: &[String]) -> Option<Order>
     ensures order { (text : List ℕ) → number_of text ≡ Some seed → option_map order_meant result ≡ make_for (text ∷ texts words.now) }
     ensures ranges { IfSome result OrderFits }
 {
-    if seed <= MOST_SEED && are_options(words, &MAKE_CHOICES) {
+    if hk_limits::SEED.holds(seed) && are_options(words, Verb::Make) {
         Some(Order::Make {
             seed: seed as u32,
             rules: run_rules(words, &MADE_STATIONS),
@@ -124,12 +123,11 @@ fn made(seed: u64, words: &[String]) -> Option<Order>
     }
 }
 
-// The rules that the options set, with so many stations where none are given.
+// The rules that the options set, with this option for the stations.
 fn run_rules(words: &[String], stations: &Choice) -> RunRules
-    requires stations { choice_of stations.now ≡ stations_choice stations.now.default }
-    requires most { highest stations.now.values ≡ 64 }
-    requires fits { RunValuesFit (texts words.now) stations.now.default }
-    ensures rules { rules_meant result ≡ rules_of stations.now.default (pairs_of (texts words.now)) }
+    requires range { (choice_of stations.now).values ≡ Within limits.STATIONS }
+    requires fits { RunValuesFit (texts words.now) (choice_of stations.now) }
+    ensures rules { rules_meant result ≡ rules_of (choice_of stations.now) (pairs_of (texts words.now)) }
     ensures ranges { RulesFit result }
 {
     RunRules {

@@ -3,7 +3,7 @@ use Rattle.hk_spec_runs.specs.Words.{Make}
 use Rattle.hk_words.specs.Options.{texts}
 use Rattle.hk_words.proofs.Pairs.{make_values}
 use Rattle.hk_words.proofs.Commands.{made-some, made-far, made-none}
-use Rattle.hk_words.proofs.order.made.Goals.{else-seed-le-MOST_SEED-via-then-seed-le-MOST_SEED+else-are_options, else-seed-le-MOST_SEED-via-else-seed-le-MOST_SEED}
+use Rattle.hk_words.proofs.order.made.Goals.{else-holds-via-then-holds+else-are_options, else-holds-via-else-holds}
 use Rattle.hk_words.proofs.order.made.Goals as goal
 
 pub run_rules-requires-clause-fits : goal.run_rules-requires-clause-fits
@@ -12,11 +12,11 @@ run_rules-requires-clause-fits c = make_values (texts c.args.words.now) (sym c.a
 pub returns-then-are_options-clause-order : goal.returns-then-are_options-clause-order
 returns-then-are_options-clause-order c text is =
     ap (λ rules. Some (Make c.args.seed rules)) c.run_rules.ensures.rules
-    ∙ made-some (texts c.args.words.now) text c.args.seed c.if-seed-le-MOST_SEED.true (sym c.are_options.ensures ∙ c.if-are_options.true) is
+    ∙ made-some (texts c.args.words.now) text c.args.seed (sym c.holds.ensures ∙ c.if-holds.true) (sym c.are_options.ensures ∙ c.if-are_options.true) is
 
-pub returns-else-seed-le-MOST_SEED-clause-order : goal.returns-else-seed-le-MOST_SEED-clause-order
-returns-else-seed-le-MOST_SEED-clause-order c text is = elim c.else-seed-le-MOST_SEED.branch [
-  | else-seed-le-MOST_SEED-via-then-seed-le-MOST_SEED+else-are_options w ↦
+pub returns-else-holds-clause-order : goal.returns-else-holds-clause-order
+returns-else-holds-clause-order c text is = elim c.else-holds.branch [
+  | else-holds-via-then-holds+else-are_options w ↦
       made-none (texts c.args.words.now) text c.args.seed (sym w.are_options.ensures ∙ w.if-are_options.false) is
-  | else-seed-le-MOST_SEED-via-else-seed-le-MOST_SEED w ↦ made-far (texts c.args.words.now) text c.args.seed w.if-seed-le-MOST_SEED.false is
+  | else-holds-via-else-holds w ↦ made-far (texts c.args.words.now) text c.args.seed (sym c.holds.ensures ∙ w.if-holds.false) is
 ]

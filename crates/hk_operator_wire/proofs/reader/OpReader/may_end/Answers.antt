@@ -1,5 +1,5 @@
 use Rattle.std.proofs.Common.{◌≡◌, sym, ◌∙◌, subst, arith}
-use Rattle.hk_station_wire.specs.Held.{is_over}
+use Rattle.hk_wire.specs.Held.{is_over}
 use Rattle.hk_operator_wire.specs.Items.{last_command}
 use Rattle.hk_operator_wire.proofs.Reading.{at_border}
 use Rattle.hk_operator_wire.proofs.reader.OpReader.may_end.Goals as goal

@@ -8,7 +8,7 @@ use Rattle.hk_records.proofs.Reading.{too_long, faulty, good, stays_good, begins
 use Rattle.hk_records.proofs.reader.RecordReader.push.Goals as goal
 
 pub returns-then-self-clause-came : goal.returns-then-self-clause-came
-returns-then-self-clause-came c = λ text h. sym (too_long c.args.self.now.stations c.args.self.now.limit text c.args.byte (omega (arith, h.taken, c.if-self.true)))
+returns-then-self-clause-came c = λ text h. c.fail.ensures.told ∙ sym (too_long c.args.self.now.stations c.args.self.now.limit text c.args.byte (omega (arith, h.taken, c.if-self.true)))
 
 pub returns-then-is_faulty-clause-came : goal.returns-then-is_faulty-clause-came
 returns-then-is_faulty-clause-came c = λ text h.
@@ -17,7 +17,7 @@ returns-then-is_faulty-clause-came c = λ text h.
     let bad : has_bad_head c.args.self.now.stations (open_bytes text ++ c.args.byte ∷ []) ≡ true =
     sym (c.is_faulty.ensures (open_bytes text) h.part) ∙ c.if-is_faulty.true in
     let place : c.record_begin-begun.result ≡ length text - length (open_bytes text) = omega (arith, begins, h.taken) in
-    ap (λ p. Bad (BadRecord p)) place
+    c.fail-then-is_faulty.ensures.told ∙ ap (λ p. Bad (BadRecord p)) place
     ∙ sym (faulty c.args.self.now.stations c.args.self.now.limit text c.args.byte (omega (arith, h.taken, c.if-self.false)) bad)
 
 pub returns-clause-came : goal.returns-clause-came
@@ -37,6 +37,7 @@ returns-clause-reads c = λ text h is_good.
     let longer : length (open_bytes text ++ c.args.byte ∷ []) ≡ length (open_bytes text) + 1 = length-append (open_bytes text) (c.args.byte ∷ []) in
     record {
       taken = omega (arith, h.taken, long);
+      none_met = h.none_met;
       within = omega (arith, c.if-self.false);
       known = c.after-self.ensures.known (open_bytes text) h.part fine h.known;
       no_fault = stays_good c.args.self.now.stations c.args.self.now.limit text c.args.byte h.no_fault (omega (arith, h.taken, c.if-self.false)) fine;
@@ -47,3 +48,6 @@ returns-clause-reads c = λ text h is_good.
 
 pub returns-clause-known : goal.returns-clause-known
 returns-clause-known c = λ text h. c.arrival.ensures.known c.args.self.now.stations h.known
+
+pub returns-clause-fault : goal.returns-clause-fault
+returns-clause-fault c = λ trouble is. absurd (c.arrival.ensures.good trouble is)

@@ -4,9 +4,9 @@ use Rattle.hk_base.specs.declared.plain.WireFault.{WireFault}
 use Rattle.hk_spec_streams.specs.Station.{station_met, station_fault}
 use Rattle.hk_station_wire.specs.declared.item.Item.TheVariants.{Fault}
 use Rattle.hk_station_wire.specs.Items.{item_at, item_of}
-use Rattle.hk_station_wire.specs.Kept.{fault_kept}
+use Rattle.hk_wire.specs.Kept.{fault_kept}
 use Rattle.hk_station_wire.proofs.MeetsFault.{met_limit}
-use Rattle.hk_station_wire.proofs.StillKept.{no_such, fault_at}
+use Rattle.hk_wire.proofs.StillKept.{no_such, fault_at}
 use Rattle.hk_station_wire.proofs.wire.Wire.push.Goals as goal
 
 -- what the text's fault says of the item
