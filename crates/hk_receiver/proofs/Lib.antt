@@ -1,8 +1,6 @@
-pub mod RingBlocks
-pub mod Steady
-pub mod Receiving
-pub mod Stepping
-pub mod InStep
-pub mod Pushing
-pub mod Hello
+mod RingBlocks
+mod Segments
+mod Blocks
+mod Holding
+mod Telling
 pub mod Beginning

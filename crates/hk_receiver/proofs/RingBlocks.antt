@@ -1,6 +1,7 @@
 -- What a print adds to the blocks of a segment, as the ring tells it.
-use Rattle.std.proofs.Common.{◌≡◌, ℕ, ◌+◌, ◌*◌, List, [], ◌∷◌, ◌++◌, length, map, sym, ◌∙◌, ap, arith, true, false, cond}
+use Rattle.std.proofs.Common.{◌≡◌, ℕ, ◌+◌, ◌*◌, List, [], ◌∷◌, ◌++◌, length, map, sym, ◌∙◌, ap, arith, true, cond, inl, inr}
 use Rattle.std.proofs.lemmas.List.{append-nil, map-append}
+use Rattle.std.proofs.lemmas.Bool.{cases_Bool}
 use Rattle.std.specs.List.{enumerate_from}
 use Rattle.hk_base.specs.declared.plain.Print.{Print}
 use Rattle.hk_spec_sound.specs.Windows.{windows}
@@ -8,7 +9,7 @@ use Rattle.hk_spec_streams.specs.Blocks.{Setting, Block, blocks_of_segment}
 use Rattle.hk_spec_streams.proofs.GrowingBlocks.{enumerate-append}
 use Rattle.hk_block.specs.Ring.{Ring, Takes, AddsBlock, PlacesBlock, BLOCK_SIZE, completes_block, first_word}
 use Rattle.hk_block.specs.Ring as rings
-use Rattle.hk_receiver.specs.Kept.{block_in}
+use Rattle.hk_receiver.specs.Segment.{block_in}
 
 module _ (s : Setting) (n : ℕ) (old new : Ring) (p : Print) (prints : List Print) (size : s.block_size ≡ BLOCK_SIZE) (hop : old.hop ≡ s.hop)
     (takes : Takes old p new) (adds : AddsBlock old p new) (places : PlacesBlock old p new) (has : rings.HasTaken old prints) where
@@ -27,20 +28,22 @@ module _ (s : Setting) (n : ℕ) (old new : Ring) (p : Print) (prints : List Pri
   before_are : map block_of (enumerate_from 0 before) ≡ blocks_of_segment s n prints
   before_are = ap (λ ws. map block_of (enumerate_from 0 ws)) (sym (windows_are prints))
 
-  pub adds_none : completes_block new ≡ false → blocks_of_segment s n (prints ++ p ∷ []) ≡ blocks_of_segment s n prints
-  adds_none is =
-      ap (λ ws. map block_of (enumerate_from 0 ws)) (after_are ∙ ap (λ c. before ++ cond c (new.last ∷ []) []) is ∙ append-nil before)
-      ∙ before_are
-
   placed : completes_block new ≡ true → s.hop * (0 + length before) ≡ first_word new
   placed is =
       let count : 0 + length before ≡ length before = omega arith in
       ap (λ m. s.hop * m) count ∙ ap (λ h. h * length before) (sym hop ∙ sym takes.0) ∙ sym (places prints has is)
 
-  pub adds_one : completes_block new ≡ true → blocks_of_segment s n (prints ++ p ∷ []) ≡ blocks_of_segment s n prints ++ block_in n new ∷ []
-  adds_one is =
-      ap (λ ws. map block_of (enumerate_from 0 ws)) (after_are ∙ ap (λ c. before ++ cond c (new.last ∷ []) []) is)
-      ∙ ap (map block_of) (enumerate-append 0 before (new.last ∷ []))
-      ∙ map-append block_of (enumerate_from 0 before) ((0 + length before, new.last) ∷ [])
-      ∙ ap (λ bs. bs ++ block_of (0 + length before, new.last) ∷ []) before_are
-      ∙ ap (λ m. blocks_of_segment s n prints ++ record { segment = n; first = m; prints = new.last } ∷ []) (placed is)
+  pub ring_adds : blocks_of_segment s n (prints ++ p ∷ []) ≡ blocks_of_segment s n prints ++ cond (completes_block new) (block_in n new ∷ []) []
+  ring_adds = ap (λ ws. map block_of (enumerate_from 0 ws)) after_are ∙ elim (cases_Bool (completes_block new)) [
+    | inr is ↦
+        ap (λ c. map block_of (enumerate_from 0 (before ++ cond c (new.last ∷ []) []))) is
+        ∙ ap (λ ws. map block_of (enumerate_from 0 ws)) (append-nil before) ∙ before_are ∙ sym (append-nil (blocks_of_segment s n prints))
+        ∙ sym (ap (λ c. blocks_of_segment s n prints ++ cond c (block_in n new ∷ []) []) is)
+    | inl is ↦
+        ap (λ c. map block_of (enumerate_from 0 (before ++ cond c (new.last ∷ []) []))) is
+        ∙ ap (map block_of) (enumerate-append 0 before (new.last ∷ []))
+        ∙ map-append block_of (enumerate_from 0 before) ((0 + length before, new.last) ∷ [])
+        ∙ ap (λ bs. bs ++ block_of (0 + length before, new.last) ∷ []) before_are
+        ∙ ap (λ m. blocks_of_segment s n prints ++ record { segment = n; first = m; prints = new.last } ∷ []) (placed is)
+        ∙ sym (ap (λ c. blocks_of_segment s n prints ++ cond c (block_in n new ∷ []) []) is)
+  ]

@@ -1,25 +1,25 @@
 -- A receiver and the text that it has received.
 use Rattle.std.specs.Prelude.{◌≡◌, ℕ, List, [], ◌∷◌, ◌++◌, map, length, None, Some}
-use Rattle.hk_spec_sound.specs.Prints.{full_analysis}
 use Rattle.hk_spec_streams.specs.Station.{Fence, station_fault, station_met, fences}
 use Rattle.hk_spec_streams.specs.Blocks.{Block, blocks}
 use Rattle.hk_spec_runs.specs.Desk.{Rules}
 use Rattle.hk_station_wire.specs.Taken as wires
-use Rattle.hk_block.specs.Ring.{Ring, BLOCK_SIZE}
+use Rattle.hk_block.specs.Ring.{Ring}
 use Rattle.hk_receiver.specs.declared.receiver.Receiver.{Receiver}
 use Rattle.hk_receiver.specs.declared.receiver.Received.{Received}
 use Rattle.hk_receiver.specs.declared.receiver.Received.TheVariants as received
-use Rattle.hk_receiver.specs.Kept.{Holds, block_in}
+use Rattle.hk_receiver.specs.Segment.{block_in}
+use Rattle.hk_receiver.specs.Kept.{Holds}
 
 -- fences that end at a place
 abbrev pub fences_at : ℕ → List ℕ → List Fence
 fences_at place asks = map (λ asked. record { asked = asked; place = place }) asks
 
 abbrev pub ring_of : Receiver → Ring
-ring_of receiver = receiver.ring
+ring_of receiver = receiver.segment.ring
 
 abbrev pub segment_of : Receiver → ℕ
-segment_of receiver = receiver.segment
+segment_of receiver = receiver.segment.number
 
 -- how many blocks the stream has brought
 abbrev pub blocks_of : Receiver → ℕ
@@ -28,13 +28,9 @@ blocks_of receiver = receiver.blocks
 -- The receiver has received this text, which has no fault; it was made for these rules.
 pub record HasReceived (rules : Rules) (receiver : Receiver) (text : List ℕ) : Type 0 where
   pub limit : wires.limit_of receiver.wire ≡ rules.bytes
-  pub hop : receiver.ring.hop ≡ rules.setting.hop
-  pub block_size : rules.setting.block_size ≡ BLOCK_SIZE
-  pub analysis : rules.setting.analysis ≡ full_analysis
-  pub flips : receiver.front.flips ≡ rules.setting.flips
   pub bytes : wires.HasTaken receiver.wire text
   pub no_fault : station_fault rules.bytes text ≡ None
-  pub holds : Holds rules.setting receiver.front receiver.ring receiver.segment receiver.sound text
+  pub holds : Holds rules.setting receiver.segment text
   pub blocks_are : receiver.blocks ≡ length (blocks rules.setting text)
 
 -- a fact of each text that the receiver has received
@@ -51,6 +47,6 @@ pub record Brings (rules : Rules) (text : List ℕ) (byte : ℕ) (receiver : Rec
 -- what is told of a text's next byte
 abbrev pub Tells : Received → Rules → List ℕ → ℕ → Receiver → Type 0
 Tells received.Nothing rules text byte receiver = Brings rules text byte receiver [] []
-Tells received.Block rules text byte receiver = Brings rules text byte receiver (block_in receiver.segment receiver.ring ∷ []) []
+Tells received.Block rules text byte receiver = Brings rules text byte receiver (block_in (segment_of receiver) (ring_of receiver) ∷ []) []
 Tells (received.Fence asked) rules text byte receiver = Brings rules text byte receiver [] (asked ∷ [])
 Tells (received.Fault fault) rules text byte receiver = station_met rules.bytes (text ++ byte ∷ []) ≡ Some fault

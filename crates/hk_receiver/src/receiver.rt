@@ -3,13 +3,14 @@ ghost use Rattle.std.specs.Prelude.{◌≡◌, ◌≤◌, ◌<◌, ◌+◌, ◌-
 ghost use Rattle.std.specs.Result.{result_err};
 ghost use Rattle.hk_spec_streams.specs.Station.{station_wrong};
 ghost use Rattle.hk_spec_runs.specs.Desk.{Rules};
-ghost use Rattle.hk_station_wire.specs.Taken.{limit_of};
-ghost use Rattle.hk_block.specs.Ring.{MOST_PRINTS, Takes, AddsBlock, PlacesBlock, completes_block, is_full};
-ghost use Rattle.hk_receiver.specs.Kept.{MOST_BYTES, IsInStep, IsSetTo};
+ghost use Rattle.hk_station_wire.specs.Taken.{limit_of, taken_of};
+ghost use Rattle.hk_block.specs.Ring.{is_full};
+ghost use Rattle.hk_receiver.specs.Segment.{ring_in, number_of};
+ghost use Rattle.hk_receiver.specs.Kept.{MOST_BYTES, IsSetTo};
 
-use hk_base::{NoMemory, Print, WireFault};
+use crate::segment::Segment;
+use hk_base::{NoMemory, WireFault};
 use hk_block::BlockRing;
-use hk_front::Front;
 use hk_station_wire::{Item, Wire};
 use std::alloc::Global;
 
@@ -23,18 +24,17 @@ pub enum Received {
     Fault(WireFault),
 }
 
-/// A stream as far as it was received. It keeps its place, the last samples of its sound and the last prints of its
-/// segment, and counts segments and blocks.
+/// A stream as far as it was received: its place, its present segment, and how many blocks it brought.
 #[derive(Drop)]
 pub struct Receiver {
     wire: Wire,
-    front: Front,
-    ring: BlockRing,
-    sound: bool,
-    segment: u64,
+    segment: Segment,
     blocks: u64,
     ghost limit: { limit_of wire ≤ MOST_BYTES },
-    ghost in_step: { ∥ IsInStep wire ring sound segment blocks ∥₁ },
+    ghost within: { taken_of wire ≤ limit_of wire },
+    ghost fewer_prints: { (ring_in segment).count ≤ taken_of wire },
+    ghost fewer_segments: { number_of segment ≤ taken_of wire },
+    ghost fewer_blocks: { blocks ≤ taken_of wire },
 }
 
 impl Receiver {
@@ -49,21 +49,11 @@ impl Receiver {
         requires limit { limit ≤ MOST_BYTES }
         ensures { IfOk result (λ receiver. (rules : Rules) → IsSetTo rules flips hop limit → HasReceived rules receiver []) }
     {
-        let front = match Front::new(alloc, flips) {
-            Ok(front) => front,
-            Err(failed) => return Err(failed),
-        };
-        match BlockRing::new(alloc, hop) {
-            Ok(ring) => Ok(Receiver {
-                wire: Wire::new(limit),
-                front,
-                ring,
-                sound: false,
-                segment: 0,
-                blocks: 0,
-            }),
-            Err(failed) => Err(failed),
-        }
+        Ok(Receiver {
+            wire: Wire::new(limit),
+            segment: Segment::new(alloc, flips, hop)?,
+            blocks: 0,
+        })
     }
 
     /// Takes the stream's next byte, and tells what it completes.
@@ -77,22 +67,20 @@ impl Receiver {
         match self.wire.push(byte) {
             Item::Nothing => Received::Nothing,
             Item::Hello(form) => {
-                if form.channels != 0 {
-                    self.front.start(form.channels, form.factor);
-                    self.sound = true;
-                }
+                self.segment.start(form);
                 Received::Nothing
             }
-            Item::Byte(sound) => match self.front.push(sound) {
-                Some(print) => take_print(&mut self.ring, &mut self.blocks, print),
-                None => Received::Nothing,
-            },
-            Item::Print(print) => take_print(&mut self.ring, &mut self.blocks, print),
+            Item::Byte(sound) => {
+                let full = self.segment.hear(sound);
+                count_block(&mut self.blocks, full)
+            }
+            Item::Print(print) => {
+                let full = self.segment.take(print);
+                count_block(&mut self.blocks, full)
+            }
             Item::Fence(asked) => Received::Fence(asked),
             Item::Gap => {
-                self.front.gap();
-                self.ring.reset();
-                self.segment += 1;
+                self.segment.end();
                 Received::Nothing
             }
             Item::Fault(fault) => Received::Fault(fault),
@@ -112,29 +100,24 @@ impl Receiver {
     pub fn ring(&self) -> &BlockRing
         ensures { result.now ≡ ring_of self.now }
     {
-        &self.ring
+        self.segment.ring()
     }
 
     /// The number of the present segment, which is that of the gaps before it.
     pub fn segment(&self) -> u64
         ensures { result ≡ segment_of self.now }
     {
-        self.segment
+        self.segment.number()
     }
 }
 
-// Takes the segment's next print, and counts the block that it completes.
-fn take_print(ring: &mut BlockRing, blocks: &mut u64, print: Print) -> Received
-    requires fewer { ring.old.count < MOST_PRINTS }
-    requires room { blocks.old < 2 ^ 64 - 1 }
-    ensures tells { result ≡ (if completes_block ring.new then Received.Block else Received.Nothing) }
-    ensures counts { blocks.new ≡ blocks.old + (if completes_block ring.new then 1 else 0) }
-    ensures prints { ring.new.count ≡ ring.old.count + 1 }
-    ensures takes { Takes ring.old print ring.new }
-    ensures adds { AddsBlock ring.old print ring.new }
-    ensures places { PlacesBlock ring.old print ring.new }
+// Counts a block that was completed, and tells it.
+fn count_block(blocks: &mut u64, full: bool) -> Received
+    requires { blocks.old < 2 ^ 64 - 1 }
+    ensures tells { result ≡ (if full then Received.Block else Received.Nothing) }
+    ensures counts { blocks.new ≡ blocks.old + (if full then 1 else 0) }
 {
-    if ring.push(print) {
+    if full {
         *blocks += 1;
         Received::Block
     } else {

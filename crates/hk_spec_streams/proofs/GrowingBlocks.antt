@@ -34,7 +34,7 @@ module _ (s : Setting) where
   unfolding blocks
   blocks_are text = refl
 
-  blocks_in-last : (channels factor : ℕ) (front : List (List ℕ)) (segment : List ℕ)
+  pub blocks_in-last : (channels factor : ℕ) (front : List (List ℕ)) (segment : List ℕ)
       → blocks_in channels factor (front ++ segment ∷ []) ≡ blocks_in channels factor front ++ blocks_of_segment s (length front) (prints_of s.analysis s.flips channels factor segment)
   blocks_in-last channels factor front segment =
       let of_part : ℕ × List ℕ → List Block = λ p. blocks_of_segment s p.0 (prints_of s.analysis s.flips channels factor p.1) in

@@ -1,20 +1,20 @@
 -- What each item tells of a text and its last byte, for every text.
 use Rattle.std.proofs.Common.{◌≡◌, ℕ, ◌+◌, ◌<◌, ◌≤◌, ◌⊎◌, List, [], ◌∷◌, ◌++◌, length, refl, sym, ◌∙◌, ap, subst, arith, length-append, Bool, true, false, inl, inr, Option, None, Some, cond, slice_index}
 use Rattle.std.proofs.lemmas.List.{append-nil}
+use Rattle.std.proofs.lemmas.Bool.{le-leb, lt-leb, cases_Bool}
 use Rattle.std.proofs.lemmas.Bool.Decides.{leb_tells, eqb_tells}
 use Rattle.std.specs.Prelude.{◌&&◌, ◌==◌, nat_lt, drop, flat_map}
 use Rattle.std.specs.Option.{option_map_or}
 use Rattle.std.specs.Int.{w32, from_be_bytes}
 use Rattle.hk_base.specs.declared.plain.WireFault.{WireFault}
 use Rattle.hk_spec_sound.specs.Groups.{rest_of}
-use Rattle.hk_spec_streams.specs.Station.{FENCE, GAP, Fence, station_met, station_fault, segments, sent_print, sent_prints, fences}
-use Rattle.hk_spec_streams.specs.LastPacket.{last_packet, last_byte, last_segment, all_sent_prints, begins_gap, ends_with_data, gap_is_open, form_of}
+use Rattle.hk_spec_streams.specs.Station.{FENCE, GAP, Fence, channels_of, factor_of, station_met, station_fault, segments, sent_print, sent_prints, fences}
+use Rattle.hk_station_wire.specs.LastPacket.{last_packet, last_byte, last_segment, all_sent_prints, begins_gap, ends_with_data, gap_is_open, form_of}
 use Rattle.hk_spec_streams.proofs.NextFault.{seen_of-all, fault_of-before, fault_of-none, fault_of-some, fault_of-stays}
-use Rattle.hk_spec_streams.proofs.GrowingPackets.{known}
 use Rattle.hk_spec_streams.proofs.Completed.{completed-more}
-use Rattle.hk_spec_streams.proofs.GrowingSegments.{next_segments, NewSegment, SameSegment, last_byte-append}
-use Rattle.hk_spec_streams.proofs.GrowingPrints.{last_segment-append, next_prints, NoPrint, NoData, PartOfPrint, WholePrint, sent-whole, sent-part}
-use Rattle.hk_spec_streams.proofs.GrowingFences.{fence_in, fences-append}
+use Rattle.hk_station_wire.proofs.GrowingSegments.{next_segments, NewSegment, SameSegment, last_byte-append}
+use Rattle.hk_station_wire.proofs.GrowingPrints.{last_segment-append, next_prints, NoPrint, NoData, PartOfPrint, WholePrint, sent-whole, sent-part}
+use Rattle.hk_station_wire.proofs.GrowingFences.{fence_in, fences-append}
 use Rattle.hk_station_wire.specs.declared.item.Item.{Item}
 use Rattle.hk_station_wire.specs.declared.item.Item.TheVariants as item
 use Rattle.hk_station_wire.specs.declared.reader.Part.{Part}
@@ -24,7 +24,7 @@ use Rattle.hk_station_wire.specs.Steps.{part_of}
 use Rattle.hk_station_wire.specs.Says as says_of
 use Rattle.hk_station_wire.proofs.MeetsFault.{sends_nothing, true_isnt_false}
 use Rattle.hk_station_wire.proofs.Parts.{says}
-use Rattle.hk_station_wire.proofs.LastItems.{Is, hello_item, hello_packet, hello_segments, hello_fences, other_item, gap_begin_item, gap_end_item, fence_item, sound_item, prints_item}
+use Rattle.hk_station_wire.proofs.LastItems.{Is, same_channels, same_factor, hello_item, hello_packet, hello_segments, hello_fences, other_item, gap_begin_item, gap_end_item, fence_item, sound_item, prints_item}
 use Rattle.hk_station_wire.proofs.WellFormed.{fits, no_open_fence}
 use Rattle.hk_station_wire.proofs.OpenGap.{gap_before, gap_of_data, gap_of_fence, gap_of_begin, gap_of_end, gap_of_other}
 
@@ -44,6 +44,13 @@ says_fault limit text b fault is = elim (one_or_none (station_fault limit text))
     }
   ]
 ]
+
+-- the form of a text whose hello is whole, or not
+pub late_form : (t : List ℕ) → 6 ≤ length t → says_of.heard_form t ≡ form_of t
+late_form t late = ap (λ c. cond c (form_of t) (record { channels = 0; factor = 1 })) (le-leb 6 (length t) late)
+
+early_form : (t : List ℕ) → length t < 6 → says_of.heard_form t ≡ record { channels = 0; factor = 1 }
+early_form t early = ap (λ c. cond c (form_of t) (record { channels = 0; factor = 1 })) (lt-leb 6 (length t) early)
 
 -- without a fault
 module _ (limit : ℕ) (text : List ℕ) (b : ℕ) (fine : station_fault limit (text ++ b ∷ []) ≡ None) where
@@ -98,7 +105,9 @@ module _ (limit : ℕ) (text : List ℕ) (b : ℕ) (fine : station_fault limit (
         | inl six ↦ subst P (sym (hello_item text b early ∙ ap (λ c. cond c (item.Hello (form_of t)) item.Nothing) six.0)) (record {
           no_fault = no_fault;
           sixth = omega (arith, six.1, long);
-          form_is = refl;
+          form_is = sym (late_form t (omega (arith, six.1)));
+          no_gap_before = hello_gap text (omega arith);
+          no_gap_after = hello_gap t (omega (arith, long));
           segments_before = hello_segments text (omega arith);
           segments_after = hello_segments t (omega (arith, long));
           fences_before = hello_fences text (omega arith);
@@ -106,6 +115,7 @@ module _ (limit : ℕ) (text : List ℕ) (b : ℕ) (fine : station_fault limit (
         })
         | inr other ↦ subst P (sym (hello_item text b early ∙ ap (λ c. cond c (item.Hello (form_of t)) item.Nothing) other.0)) (record {
           no_fault = no_fault;
+          same_form = early_form t (omega (arith, long, other.1)) ∙ sym (early_form text early);
           quiet = says_of.KeepsSegments (hello_segments t (omega (arith, long)) ∙ sym (hello_segments text (omega arith)))
               (hello_gap t (omega (arith, long)) ∙ sym (hello_gap text (omega arith)));
           same_prints = ap (flat_map sent_prints) (hello_segments t (omega (arith, long)) ∙ sym (hello_segments text (omega arith)));
@@ -120,6 +130,17 @@ module _ (limit : ℕ) (text : List ℕ) (b : ℕ) (fine : station_fault limit (
 
     abbrev count : ℕ
     count = length (last_packet (text ++ b ∷ []))
+
+    same_form : says_of.heard_form (text ++ b ∷ []) ≡ says_of.heard_form text
+    same_form =
+        let long : length (text ++ b ∷ []) ≡ length text + 1 = length-append text (b ∷ []) in
+        late_form (text ++ b ∷ []) (omega (arith, long, late))
+        ∙ ap (λ n. record { channels = n; factor = factor_of (text ++ b ∷ []) }) (same_channels text b (omega (arith, late)))
+        ∙ ap (λ n. record { channels = channels_of text; factor = n }) (same_factor text b (omega (arith, late)))
+        ∙ sym (late_form text late)
+
+    hears : says_of.hears_prints text ≡ carries_prints text
+    hears = ap (λ form. form.channels == 0) (late_form text late)
 
     gain : Is text b late Data → says_of.GainsByte text b
     gain by = elim (next_segments text b) [
@@ -138,9 +159,9 @@ module _ (limit : ℕ) (text : List ℕ) (b : ℕ) (fine : station_fault limit (
     sound_says : Is text b late Data → carries_prints text ≡ false → says_of.SaysByte b limit text b
     sound_says by sound = record {
       no_fault = no_fault;
-      behind_hello = late;
+      same_form = same_form;
       is_last = refl;
-      carries_sound = sound;
+      sounds = hears ∙ sound;
       gain = gain by;
       same_fences = no_fence by.fence_test;
     }
@@ -159,7 +180,8 @@ module _ (limit : ℕ) (text : List ℕ) (b : ℕ) (fine : station_fault limit (
           | PartOfPrint no_gap data_byte short same rest ↦
               subst P (sym (prints_item text b late by carries [] (completed-more all_sent_prints text b [] (same ∙ sym (append-nil (all_sent_prints text)))))) (record {
                 no_fault = no_fault;
-                quiet = says_of.PartOfPrint carries gained (sent-part gained.segment b (omega (arith, short, same_long)));
+                same_form = same_form;
+                quiet = says_of.PartOfPrint (hears ∙ carries) gained (sent-part gained.segment b (omega (arith, short, same_long)));
                 same_prints = same;
                 same_fences = no_fence by.fence_test;
               })
@@ -167,8 +189,8 @@ module _ (limit : ℕ) (text : List ℕ) (b : ℕ) (fine : station_fault limit (
               subst P (sym (prints_item text b late by carries (sent_print (rest_of 8 (last_segment text) ++ b ∷ []) ∷ [])
               (completed-more all_sent_prints text b (sent_print (rest_of 8 (last_segment text) ++ b ∷ []) ∷ []) grown))) (record {
                 no_fault = no_fault;
-                behind_hello = late;
-                carries = carries;
+                same_form = same_form;
+                carries = hears ∙ carries;
                 gain = gained;
                 sent = sent-whole gained.segment b (omega (arith, full, same_long)) ∙ ap (λ bytes. sent_prints gained.segment ++ sent_print (bytes ++ b ∷ []) ∷ []) (sym left);
                 more_prints = grown;
@@ -179,7 +201,7 @@ module _ (limit : ℕ) (text : List ℕ) (b : ℕ) (fine : station_fault limit (
     part_says : (part : Part) → Is text b late part → says_of.Says (item_of (text ++ b ∷ [])) limit text b
     part_says Data by =
         let P : Item → Type 0 = λ i. says_of.Says i limit text b in
-        elim (known (carries_prints text)) [
+        elim (cases_Bool (carries_prints text)) [
           | inl carries ↦ prints_say by carries
           | inr sound ↦ subst P (sym (sound_item text b late by sound)) (sound_says by sound)
         ]
@@ -187,7 +209,7 @@ module _ (limit : ℕ) (text : List ℕ) (b : ℕ) (fine : station_fault limit (
         let P : Item → Type 0 = λ i. says_of.Says i limit text b in
         subst P (sym (fence_item text b late by)) (record {
           no_fault = no_fault;
-          behind_hello = late;
+          same_form = same_form;
           same_segments = keeps_segments by.begin_test by.data_test;
           no_gap_before = gap_before text b late ∙ (gap_of_fence kind count by).0;
           no_gap_after = (gap_of_fence kind count by).1;
@@ -197,6 +219,7 @@ module _ (limit : ℕ) (text : List ℕ) (b : ℕ) (fine : station_fault limit (
         let P : Item → Type 0 = λ i. says_of.Says i limit text b in
         subst P (sym (gap_begin_item text b late by)) (record {
           no_fault = no_fault;
+          same_form = same_form;
           quiet = says_of.BeginsGap (new_segment by.begin_test) (gap_before text b late ∙ (gap_of_begin kind count by).0) (gap_of_begin kind count by).1;
           same_prints = sends_nothing text b by.data_test;
           same_fences = no_fence by.fence_test;
@@ -205,7 +228,7 @@ module _ (limit : ℕ) (text : List ℕ) (b : ℕ) (fine : station_fault limit (
         let P : Item → Type 0 = λ i. says_of.Says i limit text b in
         subst P (sym (gap_end_item text b late by)) (record {
           no_fault = no_fault;
-          behind_hello = late;
+          same_form = same_form;
           same_segments = keeps_segments by.begin_test by.data_test;
           gap_before = gap_before text b late ∙ (gap_of_end kind count by).0;
           no_gap_after = (gap_of_end kind count by).1;
@@ -215,6 +238,7 @@ module _ (limit : ℕ) (text : List ℕ) (b : ℕ) (fine : station_fault limit (
         let P : Item → Type 0 = λ i. says_of.Says i limit text b in
         subst P (sym (other_item text b late by)) (record {
           no_fault = no_fault;
+          same_form = same_form;
           quiet = says_of.KeepsSegments (keeps_segments by.begin_test by.data_test) (gap_of_other kind count by ∙ sym (gap_before text b late));
           same_prints = sends_nothing text b by.data_test;
           same_fences = no_fence by.fence_test;

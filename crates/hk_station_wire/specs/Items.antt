@@ -1,14 +1,34 @@
 -- What a station's text says of its last byte.
-use Rattle.std.specs.Prelude.{ℕ, ◌==◌, Bool, true, false, not, ◌&&◌, if◌then◌else◌, List, [], ◌∷◌, ◌++◌, map, length, slice_index_or}
+use Rattle.std.specs.Prelude.{ℕ, ◌≤◌, ⊤, ◌==◌, Bool, true, false, not, ◌&&◌, if◌then◌else◌, List, [], ◌∷◌, ◌++◌, map, length, slice_index_or}
 use Rattle.std.specs.Option.{option_map_or}
 use Rattle.hk_station_wire.specs.declared.item.Item.{Item}
 use Rattle.hk_station_wire.specs.declared.item.Item.TheVariants.{Nothing, Hello, Byte, Print, Fence, Gap, Fault}
 use Rattle.hk_spec_streams.specs.Pieces.{completed}
 use Rattle.hk_spec_streams.specs.Station.{station_fault, channels_of, fences}
-use Rattle.hk_spec_streams.specs.LastPacket.{last_byte, ends_with_data, ends_gap, all_sent_prints, form_of}
+use Rattle.hk_station_wire.specs.LastPacket.{last_byte, ends_with_data, ends_gap, all_sent_prints, form_of}
 
 abbrev pub carries_prints : List ℕ → Bool
 carries_prints text = channels_of text == 0
+
+-- this item is a fault
+abbrev pub is_fault : Item → Bool
+is_fault (Fault fault) = true
+is_fault Nothing = false
+is_fault (Hello form) = false
+is_fault (Byte byte) = false
+is_fault (Print print) = false
+is_fault (Fence asked) = false
+is_fault Gap = false
+
+-- the form that an item tells is one that a hello may have
+abbrev pub HasForm : Item → Type 0
+HasForm (Hello form) = (form.channels ≤ 2) × (1 ≤ form.factor) × (form.factor ≤ 8)
+HasForm Nothing = ⊤
+HasForm (Byte byte) = ⊤
+HasForm (Print print) = ⊤
+HasForm (Fence asked) = ⊤
+HasForm Gap = ⊤
+HasForm (Fault fault) = ⊤
 
 -- one item where the test passes
 abbrev pub one_if : {A : Type 0} → Bool → A → List A

@@ -1,13 +1,20 @@
 -- What an item tells of a text and its last byte: how the segments, the sent prints and the fences grew.
-use Rattle.std.specs.Prelude.{◌≡◌, ℕ, ◌≤◌, true, false, List, [], ◌∷◌, ◌++◌, length, Some, None}
+use Rattle.std.specs.Prelude.{◌≡◌, ℕ, ◌==◌, Bool, true, false, nat_le, if◌then◌else◌, List, [], ◌∷◌, ◌++◌, length, Some, None}
 use Rattle.hk_base.specs.declared.plain.Form.{Form}
 use Rattle.hk_base.specs.declared.plain.Print.{Print}
 use Rattle.hk_base.specs.declared.plain.WireFault.{WireFault}
 use Rattle.hk_spec_streams.specs.Station.{station_fault, station_seen, segments, sent_prints, fences}
-use Rattle.hk_spec_streams.specs.LastPacket.{all_sent_prints, form_of, gap_is_open}
+use Rattle.hk_station_wire.specs.LastPacket.{all_sent_prints, form_of, gap_is_open}
 use Rattle.hk_station_wire.specs.declared.item.Item.{Item}
 use Rattle.hk_station_wire.specs.declared.item.Item.TheVariants as item
-use Rattle.hk_station_wire.specs.Items.{carries_prints}
+
+-- the form of a text whose hello is whole, and before that the form of a stream of prints
+abbrev pub heard_form : List ℕ → Form
+heard_form text = if nat_le 6 (length text) then form_of text else record { channels = 0; factor = 1 }
+
+-- it tells of prints
+abbrev pub hears_prints : List ℕ → Bool
+hears_prints text = (heard_form text).channels == 0
 
 -- the byte goes to the last segment, and no gap is open
 pub record GainsByte (text : List ℕ) (byte : ℕ) : Type 0 where
@@ -22,7 +29,7 @@ pub record GainsByte (text : List ℕ) (byte : ℕ) : Type 0 where
 pub data Quiet (text : List ℕ) (byte : ℕ) : Type 0 where
   KeepsSegments : segments (text ++ byte ∷ []) ≡ segments text → gap_is_open (text ++ byte ∷ []) ≡ gap_is_open text → Quiet text byte
   BeginsGap : segments (text ++ byte ∷ []) ≡ segments text ++ [] ∷ [] → gap_is_open text ≡ false → gap_is_open (text ++ byte ∷ []) ≡ true → Quiet text byte
-  PartOfPrint : carries_prints text ≡ true → (gain : GainsByte text byte) → sent_prints (gain.segment ++ byte ∷ []) ≡ sent_prints gain.segment → Quiet text byte
+  PartOfPrint : hears_prints text ≡ true → (gain : GainsByte text byte) → sent_prints (gain.segment ++ byte ∷ []) ≡ sent_prints gain.segment → Quiet text byte
 
 -- neither the text nor its last byte meets a fault, so that all of it is seen
 pub record NoFault (limit : ℕ) (text : List ℕ) (byte : ℕ) : Type 0 where
@@ -33,6 +40,7 @@ pub record NoFault (limit : ℕ) (text : List ℕ) (byte : ℕ) : Type 0 where
 
 pub record SaysNothing (limit : ℕ) (text : List ℕ) (byte : ℕ) : Type 0 where
   pub no_fault : NoFault limit text byte
+  pub same_form : heard_form (text ++ byte ∷ []) ≡ heard_form text
   pub quiet : Quiet text byte
   pub same_prints : all_sent_prints (text ++ byte ∷ []) ≡ all_sent_prints text
   pub same_fences : fences (text ++ byte ∷ []) ≡ fences text
@@ -40,7 +48,9 @@ pub record SaysNothing (limit : ℕ) (text : List ℕ) (byte : ℕ) : Type 0 whe
 pub record SaysHello (form : Form) (limit : ℕ) (text : List ℕ) (byte : ℕ) : Type 0 where
   pub no_fault : NoFault limit text byte
   pub sixth : length text ≡ 5
-  pub form_is : form ≡ form_of (text ++ byte ∷ [])
+  pub form_is : form ≡ heard_form (text ++ byte ∷ [])
+  pub no_gap_before : gap_is_open text ≡ false
+  pub no_gap_after : gap_is_open (text ++ byte ∷ []) ≡ false
   pub segments_before : segments text ≡ [] ∷ []
   pub segments_after : segments (text ++ byte ∷ []) ≡ [] ∷ []
   pub fences_before : fences text ≡ []
@@ -48,16 +58,16 @@ pub record SaysHello (form : Form) (limit : ℕ) (text : List ℕ) (byte : ℕ) 
 
 pub record SaysByte (sound limit : ℕ) (text : List ℕ) (byte : ℕ) : Type 0 where
   pub no_fault : NoFault limit text byte
-  pub behind_hello : 6 ≤ length text
+  pub same_form : heard_form (text ++ byte ∷ []) ≡ heard_form text
   pub is_last : sound ≡ byte
-  pub carries_sound : carries_prints text ≡ false
+  pub sounds : hears_prints text ≡ false
   pub gain : GainsByte text byte
   pub same_fences : fences (text ++ byte ∷ []) ≡ fences text
 
 pub record SaysPrint (print : Print) (limit : ℕ) (text : List ℕ) (byte : ℕ) : Type 0 where
   pub no_fault : NoFault limit text byte
-  pub behind_hello : 6 ≤ length text
-  pub carries : carries_prints text ≡ true
+  pub same_form : heard_form (text ++ byte ∷ []) ≡ heard_form text
+  pub carries : hears_prints text ≡ true
   pub gain : GainsByte text byte
   pub sent : sent_prints (gain.segment ++ byte ∷ []) ≡ sent_prints gain.segment ++ print ∷ []
   pub more_prints : all_sent_prints (text ++ byte ∷ []) ≡ all_sent_prints text ++ print ∷ []
@@ -65,7 +75,7 @@ pub record SaysPrint (print : Print) (limit : ℕ) (text : List ℕ) (byte : ℕ
 
 pub record SaysFence (asked limit : ℕ) (text : List ℕ) (byte : ℕ) : Type 0 where
   pub no_fault : NoFault limit text byte
-  pub behind_hello : 6 ≤ length text
+  pub same_form : heard_form (text ++ byte ∷ []) ≡ heard_form text
   pub same_segments : segments (text ++ byte ∷ []) ≡ segments text
   pub no_gap_before : gap_is_open text ≡ false
   pub no_gap_after : gap_is_open (text ++ byte ∷ []) ≡ false
@@ -73,7 +83,7 @@ pub record SaysFence (asked limit : ℕ) (text : List ℕ) (byte : ℕ) : Type 0
 
 pub record SaysGap (limit : ℕ) (text : List ℕ) (byte : ℕ) : Type 0 where
   pub no_fault : NoFault limit text byte
-  pub behind_hello : 6 ≤ length text
+  pub same_form : heard_form (text ++ byte ∷ []) ≡ heard_form text
   pub same_segments : segments (text ++ byte ∷ []) ≡ segments text
   pub gap_before : gap_is_open text ≡ true
   pub no_gap_after : gap_is_open (text ++ byte ∷ []) ≡ false

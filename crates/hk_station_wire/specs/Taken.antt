@@ -9,7 +9,7 @@ use Rattle.hk_wire.specs.Kept.{Keeps}
 use Rattle.hk_station_wire.specs.Items.{item_of, carries_prints}
 use Rattle.hk_spec_sound.specs.Groups.{rest_of}
 use Rattle.hk_spec_streams.specs.Station.{channels_of, factor_of, station_met}
-use Rattle.hk_spec_streams.specs.LastPacket.{last_packet, last_segment}
+use Rattle.hk_station_wire.specs.LastPacket.{last_packet, last_segment}
 
 -- how many bytes of the last packet came
 abbrev pub packet_count : Reader → ℕ
@@ -41,6 +41,10 @@ Brings (Err fault) reader limit text = station_met limit text ≡ Some fault
 -- at most so many bytes are taken
 abbrev pub limit_of : Wire → ℕ
 limit_of wire = wire.passage.limit
+
+-- how many bytes were taken before the fault, or in all
+abbrev pub taken_of : Wire → ℕ
+taken_of wire = wire.passage.taken
 
 -- the fault that the wire has met
 abbrev pub fault_met : Wire → Option WireFault

@@ -1,5 +1,5 @@
 // What a station's bytes bring, as long as no fault is met.
-ghost use Rattle.std.specs.Prelude.{◌≡◌, ◌≤◌, ◌<◌, ◌+◌, ◌-◌, ◌^◌, ◌++◌, ℕ, List, [], ◌∷◌, length, take};
+ghost use Rattle.std.specs.Prelude.{◌≡◌, ◌≤◌, ◌<◌, ◌+◌, ◌-◌, ◌^◌, ◌++◌, ℕ, List, [], ◌∷◌, length, take, false, IfOk, IsTrue};
 ghost use Rattle.hk_spec_streams.specs.Station.{station_grammar, station_length_fits, factors_for};
 ghost use Rattle.hk_spec_streams.specs.Pieces.{is_one_of};
 ghost use Rattle.hk_spec_streams.specs.Grammar.{ends_at_start};
@@ -11,6 +11,9 @@ use hk_base::{Form, Print, WireFault};
 use hk_wire::{Gathered, LastPacket, LengthSize};
 
 pub const HELLO_SIZE: u64 = 6;
+
+// How many bytes a packet's kind and length are.
+const HEAD_SIZE: u64 = 3;
 
 const DATA: u8 = 1;
 
@@ -29,10 +32,12 @@ pub struct Reader {
     packet: LastPacket,
     group: Gathered,
     ghost short_lengths: { length_size packet ≡ Two },
+    ghost few_channels: { form.channels ≤ 2 },
 }
 
 impl Reader {
     ghost use Rattle.hk_station_wire.specs.Taken.{StandsAfter, Brings, HasByte, packet_count};
+    ghost use Rattle.hk_station_wire.specs.Items.{is_fault, HasForm};
 
     pub fn new() -> Reader
         ensures stands { StandsAfter result [] }
@@ -52,6 +57,8 @@ impl Reader {
     pub fn take(&mut self, place: u64, byte: u8) -> Result<Item, WireFault>
         requires room { place < 2 ^ 64 - 1 }
         requires within { packet_count self.old ≤ place }
+        ensures good { IfOk result (λ item. is_fault item ≡ false) }
+        ensures form { IfOk result HasForm }
         ensures brings { (limit : ℕ) (text : List ℕ) → place ≡ length text → place < limit → StandsAfter self.old text
             → Brings result self.new limit (text ++ byte ∷ []) }
         ensures within { packet_count self.new ≤ place + 1 }
@@ -73,6 +80,8 @@ impl Reader {
 
     fn take_hello(&mut self, place: u64, byte: u8) -> Result<Item, WireFault>
         requires { place < 6 }
+        ensures good { IfOk result (λ item. is_fault item ≡ false) }
+        ensures form { IfOk result HasForm }
         ensures same_packet { packet_count self.new ≡ packet_count self.old }
         ensures brings { (limit : ℕ) (text : List ℕ) → place ≡ length text → place < limit → StandsAfter self.old text
             → Brings result self.new limit (text ++ byte ∷ []) }
@@ -94,6 +103,8 @@ impl Reader {
     // The same behind the hello, where the last packet has the byte already.
     fn take_packet(&mut self, place: u64, byte: u8) -> Result<Item, WireFault>
         requires { 6 ≤ place }
+        ensures good { IfOk result (λ item. is_fault item ≡ false) }
+        ensures form { IfOk result HasForm }
         ensures same_packet { packet_count self.new ≡ packet_count self.old }
         ensures brings { (limit : ℕ) (text : List ℕ) → place ≡ length text → place < limit → HasByte self.old text byte
             → Brings result self.new limit (text ++ byte ∷ []) }
@@ -127,11 +138,14 @@ enum Part {
     Other,
 }
 
+ghost use Rattle.hk_station_wire.specs.Items.{is_fault, HasForm};
 ghost use Rattle.hk_station_wire.specs.Steps.{hello_allows, is_kind, head_fault, part_of, left_of_print, print_outcome};
 
 fn hello_allows(place: u64, channels: u8, byte: u8) -> bool
     requires { place < 6 }
-    ensures { result ≡ hello_allows place channels byte }
+    ensures allows { result ≡ hello_allows place channels byte }
+    ensures channels { IsTrue result → place ≡ 4 → byte ≤ 2 }
+    ensures factor { IsTrue result → place ≡ 5 → (1 ≤ byte) × (byte ≤ 8) }
 {
     match place {
         0 => byte == b'H',
@@ -144,7 +158,8 @@ fn hello_allows(place: u64, channels: u8, byte: u8) -> bool
 }
 
 fn factor_allowed(channels: u8, byte: u8) -> bool
-    ensures { result ≡ is_one_of (factors_for channels) byte }
+    ensures allowed { result ≡ is_one_of (factors_for channels) byte }
+    ensures range { IsTrue result → (1 ≤ byte) × (byte ≤ 8) }
 {
     match channels {
         0 => byte == 1,
@@ -170,7 +185,9 @@ fn head_fault(place: u64, count: u64, kind: u8, packet_length: u32) -> Option<Wi
 {
     match count {
         1 if !is_kind(kind) => Some(WireFault::BadKind(place)),
-        3 if !length_fits(kind, packet_length) => Some(WireFault::BadLength(place - 1)),
+        HEAD_SIZE if !length_fits(kind, packet_length) => Some(WireFault::BadLength(
+            place - (HEAD_SIZE - 2),
+        )),
         _ => None,
     }
 }
@@ -179,16 +196,18 @@ fn part_of(kind: u8, count: u64) -> Part
     ensures { result ≡ part_of kind count }
 {
     match kind {
-        DATA if count > 3 => Part::Data,
-        FENCE if count == 7 => Part::FenceEnd,
+        DATA if count > HEAD_SIZE => Part::Data,
+        FENCE if count == HEAD_SIZE + 4 => Part::FenceEnd,
         GAP if count == 1 => Part::GapBegin,
-        GAP if count == 3 => Part::GapEnd,
+        GAP if count == HEAD_SIZE => Part::GapEnd,
         _ => Part::Other,
     }
 }
 
 // Takes the next byte of the prints of a segment.
 fn take_print(group: &mut Gathered, place: u64, byte: u8) -> Result<Item, WireFault>
+    ensures good { IfOk result (λ item. is_fault item ≡ false) }
+    ensures form { IfOk result HasForm }
     ensures left { gathered group.new ≡ left_of_print (take 12 (gathered group.old ++ byte ∷ [])) }
     ensures outcome { result ≡ print_outcome place (take 12 (gathered group.old ++ byte ∷ [])) }
 {

@@ -1,5 +1,5 @@
 // The wire of a station's stream.
-ghost use Rattle.std.specs.Prelude.{◌≡◌, ◌≤◌, ◌++◌, ℕ, List, [], ◌∷◌, length, Some, None};
+ghost use Rattle.std.specs.Prelude.{◌≡◌, ◌≤◌, ◌+◌, ◌++◌, if◌then◌else◌, ℕ, List, [], ◌∷◌, length, Some, None};
 ghost use Rattle.std.specs.Result.{result_err};
 ghost use Rattle.hk_base.specs.declared.plain.WireFault.{WireFault};
 ghost use Rattle.hk_spec_streams.specs.Station.{station_wrong, station_seen};
@@ -20,13 +20,14 @@ pub struct Wire {
 }
 
 impl Wire {
-    ghost use Rattle.hk_station_wire.specs.Taken.{HasTaken, limit_of, fault_met};
-    ghost use Rattle.hk_station_wire.specs.Items.{item_at};
+    ghost use Rattle.hk_station_wire.specs.Taken.{HasTaken, limit_of, taken_of, fault_met};
+    ghost use Rattle.hk_station_wire.specs.Items.{item_at, is_fault, HasForm};
 
     /// A wire that has taken nothing, and takes at most `limit` bytes.
     pub fn new(limit: u64) -> Wire
         ensures nothing_taken { HasTaken result [] }
         ensures limit { limit_of result ≡ limit }
+        ensures none { taken_of result ≡ 0 }
     {
         Wire {
             passage: Passage::new(limit),
@@ -40,6 +41,9 @@ impl Wire {
         ensures item { (text : List ℕ) → HasTaken self.old text → result ≡ item_at (limit_of self.old) (text ++ byte ∷ []) }
         ensures taken { (text : List ℕ) → HasTaken self.old text → HasTaken self.new (text ++ byte ∷ []) }
         ensures limit_stays { limit_of self.new ≡ limit_of self.old }
+        ensures counts { taken_of self.new ≡ taken_of self.old + (if is_fault result then 0 else 1) }
+        ensures room { taken_of self.new ≤ limit_of self.new }
+        ensures form { HasForm result }
         ensures same_fault { (fault : WireFault) → fault_met self.old ≡ Some fault → result ≡ Item.Fault fault }
         ensures fault_changes_nothing { (fault : WireFault) → fault_met self.old ≡ Some fault → self.new ≡ self.old }
     {
@@ -71,7 +75,8 @@ impl Wire {
 
     /// How many bytes were taken before the fault, or in all.
     pub fn taken(&self) -> u64
-        ensures { (text : List ℕ) → HasTaken self.now text → result ≡ length (station_seen (limit_of self.now) text) }
+        ensures count { result ≡ taken_of self.now }
+        ensures seen { (text : List ℕ) → HasTaken self.now text → result ≡ length (station_seen (limit_of self.now) text) }
     {
         self.passage.taken()
     }

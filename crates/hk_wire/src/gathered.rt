@@ -1,6 +1,8 @@
 // A few bytes that are kept until they make something whole.
-ghost use Rattle.std.specs.Prelude.{◌≡◌, ◌+◌, ◌≤◌, ◌++◌, [], ◌∷◌, length, take, drop, slice_index};
+ghost use Rattle.std.specs.Prelude.{◌≡◌, ◌+◌, ◌≤◌, ◌++◌, [], ◌∷◌, ℕ, length, take, drop, slice_index};
 ghost use Rattle.std.specs.Int.{w16, w32, from_be_bytes};
+
+use byteorder::{BigEndian, ByteOrder};
 
 /// The first bytes of something, at most twelve of them, in the order in which they came.
 #[derive(Clone, Copy, Debug)]
@@ -8,6 +10,7 @@ pub struct Gathered {
     bytes: [u8; 12],
     count: usize,
     ghost within: { count ≤ 12 },
+    ghost blank: { (place : ℕ) → count ≤ place → slice_index bytes place ≡ 0 },
 }
 
 impl Gathered {
@@ -56,7 +59,7 @@ impl Gathered {
         requires { place ≤ 8 }
         ensures { result ≡ from_be_bytes w16 (drop place (gathered self.now)) }
     {
-        u16::from_be_bytes([self.byte(place), self.byte(place + 1)])
+        BigEndian::read_u16(&self.bytes[place..])
     }
 
     /// Four bytes from a place on as a number, the high byte first.
@@ -64,11 +67,6 @@ impl Gathered {
         requires { place ≤ 8 }
         ensures { result ≡ from_be_bytes w32 (drop place (gathered self.now)) }
     {
-        u32::from_be_bytes([
-            self.byte(place),
-            self.byte(place + 1),
-            self.byte(place + 2),
-            self.byte(place + 3),
-        ])
+        BigEndian::read_u32(&self.bytes[place..])
     }
 }

@@ -23,6 +23,7 @@ impl Passage {
     pub fn new(limit: u64) -> Passage
         ensures keeps { (met : Met) → Keeps met result [] }
         ensures limit { passage_limit result ≡ limit }
+        ensures none { bytes_taken result ≡ 0 }
     {
         Passage {
             limit,
@@ -45,6 +46,7 @@ impl Passage {
             → OnErr result (Keeps met self.new (text ++ byte ∷ [])) }
         ensures same_fault { (fault : WireFault) → fault_kept self.old ≡ Some fault → self.new ≡ self.old }
         ensures limit_stays { passage_limit self.new ≡ passage_limit self.old }
+        ensures taken_stays { bytes_taken self.new ≡ bytes_taken self.old }
     {
         if let Some(fault) = self.fault {
             return Err(fault);
@@ -75,6 +77,7 @@ impl Passage {
             → met (passage_limit self.old) (text ++ byte ∷ []) ≡ Some fault → Keeps met self.new (text ++ byte ∷ []) }
         ensures fault { fault_kept self.new ≡ Some fault }
         ensures limit_stays { passage_limit self.new ≡ passage_limit self.old }
+        ensures taken_stays { bytes_taken self.new ≡ bytes_taken self.old }
     {
         self.fault = Some(fault);
     }

@@ -3,7 +3,7 @@ use Rattle.std.proofs.Common.{◌≡◌, ℕ, ◌+◌, ◌-◌, ◌<◌, ◌≤�
 use Rattle.std.proofs.lemmas.List.{append-nil, drop_all, map-append}
 use Rattle.std.proofs.lemmas.Grind.{flat_map-append}
 use Rattle.std.proofs.lemmas.List.Splits.{slice_split-cons_yes, slice_split-cons_no}
-use Rattle.std.proofs.lemmas.Bool.{eqb-true, le-leb}
+use Rattle.std.proofs.lemmas.Bool.{eqb-true, le-leb, cases_Bool}
 use Rattle.std.proofs.lemmas.Bool.Decides.{leb_tells, eqb_tells}
 use Rattle.std.proofs.Math.Seq.{get_or-append_seam}
 use Rattle.std.specs.Prelude.{◌&&◌, ◌==◌, nat_lt, if◌then◌else◌}
@@ -12,9 +12,10 @@ use Rattle.std.specs.List.{slice_split, onto_first, list_all}
 use Rattle.hk_spec_streams.specs.Pieces.{Piece, pieces, pieces_within, last_bytes, is_whole}
 use Rattle.hk_spec_streams.specs.Grammar.{packets, packet_size, kind_of, ends_at_start}
 use Rattle.hk_spec_streams.specs.Station.{station_grammar, segments, data_of, DATA, GAP}
-use Rattle.hk_spec_streams.specs.LastPacket.{last_packet, last_byte, begins_gap, ends_with_data}
-use Rattle.hk_spec_streams.proofs.PacketSize.{packet_size_16}
-use Rattle.hk_spec_streams.proofs.GrowingPackets.{all_whole, Next, Begins, Goes, next_behind, last_bytes-next, last_bytes-append, over, known}
+use Rattle.hk_station_wire.specs.LastPacket.{last_packet, last_byte, begins_gap, ends_with_data}
+use Rattle.hk_spec_streams.proofs.PacketSize.{packet_size_is_size}
+use Rattle.hk_spec_streams.proofs.GrowingPieces.{last_bytes-append}
+use Rattle.hk_spec_streams.proofs.GrowingPackets.{all_whole, Next, Begins, Goes, next_behind, last_bytes-next, over}
 
 -- no packet before the hello is there
 pub packets_short : (text : List ℕ) → length text ≤ 6 → packets station_grammar text ≡ []
@@ -24,7 +25,7 @@ packets_short text h = ap (λ bytes. pieces (packet_size w16) 6 bytes) (drop_all
 pub next_packet : (text : List ℕ) (b : ℕ) → 6 ≤ length text
     → Next (packet_size w16) (length text) b (packets station_grammar text) (packets station_grammar (text ++ b ∷ []))
 unfolding packets
-next_packet text b h = next_behind (packet_size w16) packet_size_16 6 b text h
+next_packet text b h = next_behind (packet_size w16) (packet_size_is_size w16) 6 b text h
 
 -- the last packet is the byte alone where the last one was over, and else the last one with the byte behind it
 pub last_packet-next : (text : List ℕ) (b : ℕ) → 6 ≤ length text
@@ -79,7 +80,7 @@ parts_of p [] = record {
 }
 parts_of p (y ∷ ys) =
     let later = parts_of p ys in
-    elim (known (p y)) [
+    elim (cases_Bool (p y)) [
       | inl cuts ↦ record {
         front = [] ∷ later.front;
         part = later.part;
@@ -90,29 +91,33 @@ parts_of p (y ∷ ys) =
       | inr stays ↦ onto_parts p y ys stays later.front later.part later.is later.joins later.begins
     ]
 
+-- a packet's data, which are the same in each text
+abbrev pub packet_data : Piece → List ℕ
+packet_data = data_of []
+
 abbrev segments_of : List Piece → List (List ℕ)
-segments_of ps = map (flat_map data_of) (slice_split (λ packet. kind_of packet == GAP) ps)
+segments_of ps = map (flat_map packet_data) (slice_split (λ packet. kind_of packet == GAP) ps)
 
 -- the same of segments
 record Segments (ps : List Piece) : Type 0 where
   front : List (List ℕ)
   part : List ℕ
   is : segments_of ps ≡ front ++ part ∷ []
-  joins : (x : Piece) → (kind_of x == GAP) ≡ false → segments_of (ps ++ x ∷ []) ≡ front ++ (part ++ data_of x) ∷ []
+  joins : (x : Piece) → (kind_of x == GAP) ≡ false → segments_of (ps ++ x ∷ []) ≡ front ++ (part ++ packet_data x) ∷ []
   begins : (x : Piece) → (kind_of x == GAP) ≡ true → segments_of (ps ++ x ∷ []) ≡ (front ++ part ∷ []) ++ [] ∷ []
 
 segments_parts : (ps : List Piece) → Segments ps
 segments_parts ps =
     let parts = parts_of (λ packet. kind_of packet == GAP) ps in
-    let join : List Piece → List ℕ = flat_map data_of in
+    let join : List Piece → List ℕ = flat_map packet_data in
     record {
-      front = map (flat_map data_of) parts.front;
-      part = flat_map data_of parts.part;
+      front = map (flat_map packet_data) parts.front;
+      part = flat_map packet_data parts.part;
       is = ap (map join) parts.is ∙ map-append join parts.front (parts.part ∷ []);
       joins = λ x no.
           ap (map join) (parts.joins x no) ∙ map-append join parts.front ((parts.part ++ x ∷ []) ∷ [])
           ∙ ap (λ last. map join parts.front ++ last ∷ [])
-          (flat_map-append data_of parts.part (x ∷ []) ∙ ap (λ xs. flat_map data_of parts.part ++ xs) (append-nil (data_of x)));
+          (flat_map-append packet_data parts.part (x ∷ []) ∙ ap (λ xs. flat_map packet_data parts.part ++ xs) (append-nil (packet_data x)));
       begins = λ x yes.
           ap (map join) (parts.begins x yes) ∙ map-append join (parts.front ++ parts.part ∷ []) ([] ∷ [])
           ∙ ap (λ all. all ++ [] ∷ []) (map-append join parts.front (parts.part ∷ []));
@@ -134,7 +139,7 @@ no_data false ys = refl
 
 -- a byte more in a packet that has begun
 data_of-append : (place b : ℕ) (bytes : List ℕ) → 0 < length bytes
-    → data_of (piece_at place (bytes ++ b ∷ [])) ≡ data_of (piece_at place bytes) ++ data_byte (bytes ++ b ∷ []) b
+    → packet_data (piece_at place (bytes ++ b ∷ [])) ≡ packet_data (piece_at place bytes) ++ data_byte (bytes ++ b ∷ []) b
 data_of-append place b [] h = absurd (omega arith)
 data_of-append place b (x ∷ []) h = no_data (x == DATA) (b ∷ [])
 data_of-append place b (x ∷ y ∷ []) h = no_data (x == DATA) (b ∷ [])
@@ -196,10 +201,10 @@ next_segments_begin text b place grown =
     let old : segments text ≡ parts.front ++ parts.part ∷ [] = segments_are text ∙ parts.is in
     let new : segments (text ++ b ∷ []) ≡ segments_of (packets station_grammar text ++ piece_at place (b ∷ []) ∷ []) =
     segments_are (text ++ b ∷ []) ∙ ap segments_of grown in
-    elim (known (b == GAP)) [
+    elim (cases_Bool (b == GAP)) [
       | inl is ↦ NewSegment (gap ∙ is) (new ∙ parts.begins (piece_at place (b ∷ [])) is ∙ sym (ap (λ all. all ++ [] ∷ []) old))
       | inr isnt ↦
-          let none : data_of (piece_at place (b ∷ [])) ≡ [] = same_either (b == DATA) in
+          let none : packet_data (piece_at place (b ∷ [])) ≡ [] = same_either (b == DATA) in
           let gained : data_gained (text ++ b ∷ []) ≡ [] =
           ap (λ bs. cond ((slice_index bs 0 == DATA) && nat_lt 3 (length bs)) (last_byte (text ++ b ∷ []) ∷ []) []) bytes ∙ never (b == DATA) (last_byte (text ++ b ∷ []) ∷ []) in
           SameSegment parts.front parts.part (gap ∙ isnt) old
@@ -227,7 +232,7 @@ next_segments_go text b front place bytes some old grown =
     let gained : data_gained (text ++ b ∷ []) ≡ data_byte longer b =
     ap (λ bs. cond ((slice_index bs 0 == DATA) && nat_lt 3 (length bs)) (last_byte (text ++ b ∷ []) ∷ []) []) last
     ∙ ap (λ byte. cond ((slice_index longer 0 == DATA) && nat_lt 3 (length longer)) (byte ∷ []) []) (last_byte-append text b) in
-    elim (known (kind_of (piece_at place bytes) == GAP)) [
+    elim (cases_Bool (kind_of (piece_at place bytes) == GAP)) [
       | inl is ↦
           let still : (kind_of (piece_at place longer) == GAP) ≡ true = ap (λ k. k == GAP) kind ∙ is in
           let none : data_byte longer b ≡ [] = gap_has_no_data (slice_index longer 0) (nat_lt 3 (length longer)) b still in
@@ -235,11 +240,11 @@ next_segments_go text b front place bytes some old grown =
           (after ∙ parts.begins (piece_at place longer) still ∙ sym (ap (λ more. (parts.front ++ parts.part ∷ []) ++ more ∷ []) (gained ∙ none)))
       | inr isnt ↦
           let still : (kind_of (piece_at place longer) == GAP) ≡ false = ap (λ k. k == GAP) kind ∙ isnt in
-          SameSegment parts.front (parts.part ++ data_of (piece_at place bytes)) no_gap (before ∙ parts.joins (piece_at place bytes) isnt)
+          SameSegment parts.front (parts.part ++ packet_data (piece_at place bytes)) no_gap (before ∙ parts.joins (piece_at place bytes) isnt)
           (after ∙ parts.joins (piece_at place longer) still
           ∙ ap (λ more. parts.front ++ (parts.part ++ more) ∷ []) (data_of-append place b bytes some)
-          ∙ ap (λ part. parts.front ++ part ∷ []) (sym (append_assoc parts.part (data_of (piece_at place bytes)) (data_byte longer b)))
-          ∙ sym (ap (λ more. parts.front ++ ((parts.part ++ data_of (piece_at place bytes)) ++ more) ∷ []) gained))
+          ∙ ap (λ part. parts.front ++ part ∷ []) (sym (append_assoc parts.part (packet_data (piece_at place bytes)) (data_byte longer b)))
+          ∙ sym (ap (λ more. parts.front ++ ((parts.part ++ packet_data (piece_at place bytes)) ++ more) ∷ []) gained))
     ]
 
 pub next_segments : (text : List ℕ) (b : ℕ) → NextSegments text b
@@ -256,4 +261,4 @@ pub starts : (text : List ℕ) → 6 ≤ length text → ends_at_start station_g
 unfolding packets
 starts text late =
     ap (λ c. c && list_all (is_whole (packet_size w16)) (packets station_grammar text)) (le-leb 6 (length text) late)
-    ∙ all_whole (packet_size w16) packet_size_16 (length (drop 6 text)) 6 (drop 6 text) (omega arith)
+    ∙ all_whole (packet_size w16) (packet_size_is_size w16) (length (drop 6 text)) 6 (drop 6 text) (omega arith)

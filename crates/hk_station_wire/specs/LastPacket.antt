@@ -5,8 +5,8 @@ use Rattle.std.specs.List.{last_or}
 use Rattle.hk_base.specs.declared.plain.Print.{Print}
 use Rattle.hk_base.specs.declared.plain.Form.{Form}
 use Rattle.hk_spec_streams.specs.Pieces.{last_bytes}
-use Rattle.hk_spec_streams.specs.Grammar.{packets}
-use Rattle.hk_spec_streams.specs.Station.{station_grammar, segments, sent_prints, channels_of, factor_of, DATA, GAP}
+use Rattle.hk_spec_streams.specs.Grammar.{packets, head_size}
+use Rattle.hk_spec_streams.specs.Station.{station_grammar, width_in, segments, sent_prints, channels_of, factor_of, DATA, GAP}
 
 -- the bytes of the last packet that are there
 abbrev pub last_packet : List ℕ → List ℕ
@@ -21,15 +21,15 @@ begins_gap text = (length (last_packet text) == 1) && (slice_index (last_packet 
 
 -- the last byte of a gap
 abbrev pub ends_gap : List ℕ → Bool
-ends_gap text = (length (last_packet text) == 3) && (slice_index (last_packet text) 0 == GAP)
+ends_gap text = (length (last_packet text) == head_size (width_in text)) && (slice_index (last_packet text) 0 == GAP)
 
 -- a gap has begun and hasn't ended
 abbrev pub gap_is_open : List ℕ → Bool
-gap_is_open text = (slice_index (last_packet text) 0 == GAP) && nat_lt (length (last_packet text)) 3
+gap_is_open text = (slice_index (last_packet text) 0 == GAP) && nat_lt (length (last_packet text)) (head_size (width_in text))
 
 -- a payload byte of a data packet
 abbrev pub ends_with_data : List ℕ → Bool
-ends_with_data text = (slice_index (last_packet text) 0 == DATA) && nat_lt 3 (length (last_packet text))
+ends_with_data text = (slice_index (last_packet text) 0 == DATA) && nat_lt (head_size (width_in text)) (length (last_packet text))
 
 -- the prints that were sent, segment after segment
 abbrev pub all_sent_prints : List ℕ → List Print

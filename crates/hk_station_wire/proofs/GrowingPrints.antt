@@ -9,9 +9,10 @@ use Rattle.hk_spec_sound.specs.Windows.{windows}
 use Rattle.hk_spec_sound.specs.Groups.{rest_of}
 use Rattle.hk_spec_sound.proofs.GrowingGroups.{groups-append_whole, groups-append_part, rest_is_short}
 use Rattle.hk_spec_streams.specs.Station.{segments, sent_print, sent_prints}
-use Rattle.hk_spec_streams.specs.LastPacket.{last_byte, begins_gap, ends_with_data, last_segment, all_sent_prints}
-use Rattle.hk_spec_streams.proofs.GrowingPackets.{last_or-append, known}
-use Rattle.hk_spec_streams.proofs.GrowingSegments.{last_byte-append, next_segments, NewSegment, SameSegment, data_gained}
+use Rattle.hk_station_wire.specs.LastPacket.{last_byte, begins_gap, ends_with_data, last_segment, all_sent_prints}
+use Rattle.std.proofs.lemmas.Bool.{cases_Bool}
+use Rattle.hk_spec_streams.proofs.GrowingPieces.{last_or-append}
+use Rattle.hk_station_wire.proofs.GrowingSegments.{last_byte-append, next_segments, NewSegment, SameSegment, data_gained}
 
 -- the last segment is the last part
 pub last_segment-append : (text : List ℕ) (front : List (List ℕ)) (part : List ℕ) → segments text ≡ front ++ part ∷ [] → last_segment text ≡ part
@@ -57,7 +58,7 @@ next_prints_by : (text : List ℕ) (b : ℕ) (front : List (List ℕ)) (part : L
 next_prints_by text b front part no_gap old new =
     let last : last_segment text ≡ part = last_segment-append text front part old in
     let sent : all_sent_prints text ≡ flat_map sent_prints front ++ sent_prints part = ap (flat_map sent_prints) old ∙ sent-last front part in
-    elim (known (ends_with_data (text ++ b ∷ []))) [
+    elim (cases_Bool (ends_with_data (text ++ b ∷ []))) [
       | inr none ↦
           let gained : part ++ data_gained (text ++ b ∷ []) ≡ part = ap (λ c. part ++ cond c (last_byte (text ++ b ∷ []) ∷ []) []) none ∙ append-nil part in
           let same : segments (text ++ b ∷ []) ≡ segments text = new ∙ ap (λ s. front ++ s ∷ []) gained ∙ sym old in

@@ -1,0 +1,108 @@
+// The present segment of a stream.
+ghost use Rattle.std.specs.Prelude.{◌≡◌, ◌≤◌, ◌<◌, ◌+◌, ◌^◌, ◌++◌, [], ◌∷◌, ◌==◌, ℕ, List, true, false, IsTrue, IfOk};
+ghost use Rattle.hk_base.specs.declared.plain.Form.{Form};
+ghost use Rattle.hk_spec_streams.specs.Blocks.{Setting};
+ghost use Rattle.hk_spec_streams.specs.Station.{sent_prints};
+ghost use Rattle.hk_block.specs.Ring.{MOST_PRINTS, is_full};
+
+use hk_base::{Form, NoMemory, Print};
+use hk_block::BlockRing;
+use hk_front::Front;
+use std::alloc::Global;
+
+/// The segment that a stream is in: its number, which is that of the gaps before it, its last prints, and the last
+/// samples of its sound.
+#[derive(Drop)]
+pub struct Segment {
+    front: Front,
+    ring: BlockRing,
+    number: u64,
+}
+
+impl Segment {
+    ghost use Rattle.hk_receiver.specs.Segment.{IsFor, HasBytes, Gains, ring_in, number_of};
+
+    /// The first segment of a stream, without a byte. It takes all memory that it needs.
+    pub fn new(alloc: Global, flips: u32, hop: u32) -> Result<Segment, NoMemory>
+        requires some { 1 ≤ hop }
+        requires most { hop ≤ 256 }
+        ensures empty { IfOk result (λ segment. (s : Setting) → IsFor s flips hop → HasBytes s (record { channels = 0; factor = 1 }) segment []) }
+        ensures first { IfOk result (λ segment. number_of segment ≡ 0) }
+        ensures none { IfOk result (λ segment. (ring_in segment).count ≡ 0) }
+    {
+        Ok(Segment {
+            front: Front::new(alloc, flips)?,
+            ring: BlockRing::new(alloc, hop)?,
+            number: 0,
+        })
+    }
+
+    /// The stream tells its form, before the segment's first byte. A form of sound has one or two channels and a factor
+    /// of 1 to 8.
+    pub fn start(&mut self, form: Form)
+        requires few_channels { form.channels ≤ 2 }
+        requires some_factor { 1 ≤ form.factor }
+        requires small_factor { form.factor ≤ 8 }
+        ensures empty { (s : Setting) (before : Form) → HasBytes s before self.old [] → HasBytes s form self.new [] }
+        ensures same_number { number_of self.new ≡ number_of self.old }
+        ensures same_ring { ring_in self.new ≡ ring_in self.old }
+    {
+        if form.channels != 0 {
+            self.front.start(form.channels, form.factor);
+        }
+    }
+
+    /// Takes a byte of sound, and tells whether it completes a block.
+    pub fn hear(&mut self, byte: u8) -> bool
+        requires fewer { (ring_in self.old).count < MOST_PRINTS }
+        ensures gains { (s : Setting) (form : Form) (bytes : List ℕ) → (form.channels == 0) ≡ false → HasBytes s form self.old bytes
+            → Gains s form self.old bytes byte result self.new }
+        ensures same_number { number_of self.new ≡ number_of self.old }
+        ensures few { (ring_in self.new).count ≤ (ring_in self.old).count + 1 }
+        ensures full { IsTrue result → IsTrue (is_full (ring_in self.new)) }
+    {
+        match self.front.push(byte) {
+            Some(print) => self.ring.push(print),
+            None => false,
+        }
+    }
+
+    /// Takes a print that was sent, and tells whether it completes a block.
+    pub fn take(&mut self, print: Print) -> bool
+        requires fewer { (ring_in self.old).count < MOST_PRINTS }
+        ensures gains { (s : Setting) (form : Form) (bytes : List ℕ) (byte : ℕ) → (form.channels == 0) ≡ true
+            → sent_prints (bytes ++ byte ∷ []) ≡ sent_prints bytes ++ print ∷ [] → HasBytes s form self.old bytes
+            → Gains s form self.old bytes byte result self.new }
+        ensures same_number { number_of self.new ≡ number_of self.old }
+        ensures few { (ring_in self.new).count ≤ (ring_in self.old).count + 1 }
+        ensures full { IsTrue result → IsTrue (is_full (ring_in self.new)) }
+    {
+        self.ring.push(print)
+    }
+
+    /// A gap ends: the next segment begins, in the same form.
+    pub fn end(&mut self)
+        requires { number_of self.old + 1 < 2 ^ 64 }
+        ensures empty { (s : Setting) (form : Form) (bytes : List ℕ) → HasBytes s form self.old bytes → HasBytes s form self.new [] }
+        ensures next { number_of self.new ≡ number_of self.old + 1 }
+        ensures none { (ring_in self.new).count ≡ 0 }
+    {
+        self.front.gap();
+        self.ring.reset();
+        self.number += 1;
+    }
+
+    /// Its last prints.
+    pub fn ring(&self) -> &BlockRing
+        ensures { result.now ≡ ring_in self.now }
+    {
+        &self.ring
+    }
+
+    /// Its number.
+    pub fn number(&self) -> u64
+        ensures { result ≡ number_of self.now }
+    {
+        self.number
+    }
+}
