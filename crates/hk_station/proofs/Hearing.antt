@@ -16,7 +16,7 @@ use Rattle.hk_spec_runs.proofs.Listening.{next_over, Gives-over, next_fault, Giv
 use Rattle.hk_block.specs.Looker.{LookerView, Past, matches_in, query_of, most_steps}
 use Rattle.hk_block.specs.Ring.{Ring, first_word}
 use Rattle.hk_receiver.specs.declared.receiver.Receiver.{Receiver}
-use Rattle.hk_receiver.specs.Kept.{block_in}
+use Rattle.hk_receiver.specs.Segment.{block_in}
 use Rattle.hk_receiver.specs.Received.{HasReceived, Brings, ForEachText, fences_at}
 use Rattle.hk_station.specs.declared.station.Station.{Station}
 use Rattle.hk_station.specs.Hearing.{IsHearing, ForEach}

@@ -4,7 +4,7 @@ use Rattle.hk_base.proofs.Writing.{written-nothing}
 use Rattle.hk_spec_streams.specs.Blocks.{Block}
 use Rattle.hk_spec_runs.specs.Listening.{Instant}
 use Rattle.hk_block.proofs.Looking.{Looks-nothing}
-use Rattle.hk_receiver.specs.Kept.{block_in}
+use Rattle.hk_receiver.specs.Segment.{block_in}
 use Rattle.hk_receiver.specs.Received.{segment_of, ring_of}
 use Rattle.hk_station.specs.declared.station.Progress.TheVariants.{Over}
 use Rattle.hk_station.specs.Feeding.{instant}
