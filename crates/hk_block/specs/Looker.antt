@@ -1,8 +1,9 @@
 -- What looks mean.
-use Rattle.std.specs.Prelude.{◌≡◌, ℕ, List, [], ◌∷◌, ◌++◌, Bool, IsTrue, Option, Some, option_map}
+use Rattle.std.specs.Prelude.{◌≡◌, ℕ, ◌*◌, List, [], ◌∷◌, ◌++◌, Bool, IsTrue, Option, Some, option_map}
 use Rattle.hk_base.specs.declared.plain.Match.{Match}
 use Rattle.hk_spec_matching.specs.Catalogue.{Songs, Edit, Limits, Rise}
 use Rattle.hk_spec_matching.specs.Matching.{Query, matches}
+use Rattle.hk_spec_matching.specs.Cost.{cost}
 use Rattle.hk_block.specs.Ring.{Ring}
 
 -- an entry of a published list: an edit, or the end of a batch
@@ -78,3 +79,7 @@ query_of ring = record { prints = ring.last }
 -- the matches of the ring's prints in songs
 abbrev pub matches_in : Ring → Songs → List Match
 matches_in ring songs = matches (query_of ring) songs
+
+-- The most steps of a look: for each node in the buckets that the block's words meet one, and one for each word of a window.
+abbrev pub most_steps : Ring → LookerView → ℕ
+most_steps ring view = 257 * cost view.room (query_of ring) view.songs

@@ -4,4 +4,5 @@ pub mod RollFields
 pub mod Shelving
 pub mod FreeSlots
 pub mod Kept
+pub mod Counting
 pub mod Filled

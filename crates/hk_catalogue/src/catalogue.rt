@@ -1,17 +1,21 @@
 // The catalogue: a store of words, the ids of its songs with their slots, and the slots that are free.
-ghost use Rattle.std.specs.Prelude.{◌≡◌, ◌≤◌, ◌<◌, ◌^◌, ◌&&◌, not, true, false, length, vec_len, vec_capacity, IfOk, IsTrue, Some, is_some, slice_get};
+ghost use Rattle.std.specs.Prelude.{◌≡◌, ◌==◌, ◌≤◌, ◌<◌, ◌^◌, ◌&&◌, not, count_by, true, false, length, vec_len, vec_capacity, IfOk, IsTrue, Some, is_some, slice_get};
 ghost use Rattle.std.specs.List.{Contains};
 ghost use Rattle.std.specs.Option.{IfSome};
 ghost use Rattle.hk_spec_matching.specs.Catalogue.{Limits, has_song, has_room, with_song, without_song, positions_of};
+ghost use Rattle.hk_spec_matching.specs.Buckets.{bucket_of};
+ghost use Rattle.hk_spec_matching.specs.Cost.{all_words};
 ghost use Rattle.hk_spec_matching.specs.Matching.{MOST_ERRORS};
+ghost use Rattle.hk_table.specs.Index.{ArePlaces, index_of};
 ghost use Rattle.hk_table.specs.Store.{song_at, spare};
 ghost use Rattle.hk_catalogue.specs.Register.{songs_after};
 ghost use Rattle.hk_catalogue.specs.Shelves.{new_shelves, songs_of, song_of, entry_of, HasLimits, version_after, HasIn, IsCounting};
+ghost use Rattle.hk_catalogue.specs.CatalogueInside.{IsShelved};
 
 use crate::Edit;
 use crate::entry::{self, Entry};
 use hk_base::NoMemory;
-use hk_table::{Song, SongBlock, SongStore};
+use hk_table::{Song, SongBlock, SongStore, Table, Walk};
 use std::alloc::Global;
 use std::marker::Model;
 
@@ -19,6 +23,7 @@ use std::marker::Model;
 #[derive(Drop)]
 pub struct Catalogue {
     store: SongStore,
+    table: Table,
     index: Vec<Entry>,
     free: Vec<u32>,
     version: u32,
@@ -62,10 +67,12 @@ impl Catalogue {
         ensures { IfOk result (λ catalogue. catalogue ≡ new_shelves songs positions) }
     {
         let store = SongStore::new(alloc, positions, songs)?;
+        let table = Table::new(alloc, positions, songs)?;
         let free = numbers_below(alloc, songs)?;
         match Vec::with_capacity(alloc, songs as usize) {
             Ok(index) => Ok(Catalogue {
                 store,
+                table,
                 index,
                 free,
                 version: 0,
@@ -130,10 +137,20 @@ impl Catalogue {
         self.store.song(slot)
     }
 
+    /// A walk to the places of a word in all songs, each a slot and a position. It ticks once for each position whose word
+    /// is in the same bucket.
+    pub fn walk(&self, word: u32) -> Walk<'_>
+        ensures places { ArePlaces (index_of self.now.store) word result.places }
+        ensures nodes { result.nodes ≡ count_by (λ x. bucket_of self.now.store.positions x == bucket_of self.now.store.positions word) (all_words (songs_of self.now)) }
+    {
+        self.table.walk(word)
+    }
+
     /// How many songs are there.
     pub fn count(&self) -> u32
         ensures count { result ≡ length (songs_of self.now) }
         ensures words_fit { positions_of (songs_of self.now) ≤ self.now.store.positions }
+        ensures shelved { IsShelved self.now }
     {
         self.index.len() as u32
     }
@@ -181,6 +198,7 @@ impl Catalogue {
             unreachable!();
         };
         self.store.put(slot, song);
+        self.table.insert(slot, song);
         match self.index.insert(place, Entry { id, number: slot }) {
             Ok(()) => {}
             Err(_) => unreachable!(),
@@ -198,6 +216,7 @@ impl Catalogue {
         let place = entry::place_of(self.index.as_slice(), id);
         let gone = self.index.remove(place);
         self.store.clear(gone.number);
+        self.table.remove(gone.number);
         self.free.push_reserved(gone.number);
     }
 }

@@ -106,6 +106,46 @@ fn songs_are_found_in_their_slots(rt: HostRuntime) -> Result<(), AllocError> {
     Ok(())
 }
 
+// How many places of a word a walk gives, all of them in this slot; none where one is in another.
+fn places_in<L: Ledger>(catalogue: &Catalogue, word: u32, slot: u32, blank: Blank) -> u32
+    requires name { blank.name ≡ L.name }
+    requires parts { blank.parts ≡ L.parts }
+    requires some { 0 < L.parts }
+{
+    let mut steps: Steps<L> = Steps::new(blank);
+    let mut count = 0u32;
+    let mut walk = catalogue.walk(word);
+    while let Some(place) = walk.advance(&mut steps) {
+        if place.slot != slot {
+            return 0;
+        }
+        count = count.saturating_add(1);
+    }
+    count
+}
+
+#[test]
+fn words_are_found_where_their_songs_are(rt: HostRuntime) -> Result<(), AllocError> {
+    let Ok(mut catalogue) = Catalogue::new(rt.alloc(), 2, 600) else {
+        panic!(rt; "no memory");
+    };
+    catalogue.absorb(&adding(rt.alloc(), 7, 5, 256)?);
+    catalogue.absorb(&adding(rt.alloc(), 3, 6, 344)?);
+    catalogue.absorb(&adding(rt.alloc(), 7, 6, 256)?);
+    let Some(slot) = catalogue.find(7) else {
+        panic!(rt; "no song");
+    };
+    let Some(other) = catalogue.find(3) else {
+        panic!(rt; "no song");
+    };
+    assert_eq!(rt; places_in::<Brand>(&catalogue, 5, slot, Blank::new(1)), 256);
+    assert_eq!(rt; places_in::<Brand>(&catalogue, 6, other, Blank::new(1)), 344);
+    catalogue.absorb(&Edit::Withdraw(7));
+    assert_eq!(rt; places_in::<Brand>(&catalogue, 5, slot, Blank::new(1)), 0);
+    assert_eq!(rt; places_in::<Brand>(&catalogue, 6, other, Blank::new(1)), 344);
+    Ok(())
+}
+
 #[test]
 fn all_slots_and_all_words_are_used(rt: HostRuntime) -> Result<(), AllocError> {
     let Ok(mut catalogue) = Catalogue::new(rt.alloc(), 65536, 16777216) else {

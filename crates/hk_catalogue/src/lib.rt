@@ -3,7 +3,8 @@
 //! A [`Catalogue`] keeps the songs of a version in a [`hk_table::SongStore`], and callers see the map from ids to words and the
 //! version. Absorbing an edit never fails: what can't be done changes nothing. A [`Roll`] keeps ids and lengths alone and tells
 //! which edit may be done, each refusal with its numbers. A [`Shelf`] is where edits are checked and staged. After `new`
-//! neither a catalogue nor a roll takes memory.
+//! neither a catalogue nor a roll takes memory. A catalogue has a [`hk_table::Table`] beside its store, by which the places of a
+//! word are found.
 #![tactic(auto)]
 
 mod catalogue;

@@ -1,33 +1,48 @@
-// The table of the quarter circle, and what is read from it.
-ghost use Rattle.std.specs.Prelude.{◌≡◌, ◌<◌, ◌≤◌, ◌+◌, ◌*◌, ◌^◌, nat_abs, pos, ◌≤ℤ◌, length, IfOk};
-ghost use Rattle.hk_spec_sound.specs.Circle.{quarter, refined, direction, cos_of, sin_of, hann_of};
-ghost use Rattle.hk_circle.specs.Points.{pairs, parts};
+// The circle, as it is read.
+ghost use Rattle.std.specs.Prelude.{◌≡◌, ◌<◌, ◌≤◌, ◌^◌, nat_abs, pos, ◌≤ℤ◌};
+ghost use Rattle.hk_spec_sound.specs.Circle.{quarter, cos_of, sin_of, hann_of};
+ghost use Rattle.hk_circle.specs.Tables.{IsTable, HasStages, TurnsOf};
 
-use crate::direction::Direction;
-use crate::point::{Point, RADIUS};
+use crate::quarter::Quarter;
+use crate::tables::{Tables, by_stages};
 use hk_base::NoMemory;
 use std::alloc::Global;
 
-// How often the quarter's angle is halved, and in how many steps it then comes.
-const LEVELS: usize = 9;
-
-const STEPS: usize = 512;
-
-/// The circle in 2048 parts, by the 513 points of its first quarter.
+/// The circle in 2048 parts: whole tables, and the cosines and the sines once more in the order in which the stages of a
+/// transform read them.
 #[derive(Drop)]
 pub struct Circle {
-    points: Vec<Point>,
-    ghost exact: { pairs points.items ≡ quarter 9 },
+    cosines: Vec<i32>,
+    sines: Vec<i32>,
+    window: Vec<i32>,
+    stage_cosines: Vec<i32>,
+    stage_sines: Vec<i32>,
+    ghost cosines_are: { IsTable 2048 (λ k. cos_of (quarter 9) k) cosines.items },
+    ghost sines_are: { IsTable 2048 (λ k. sin_of (quarter 9) k) sines.items },
+    ghost window_is: { IsTable 2048 (λ n. hann_of (quarter 9) n) window.items },
+    ghost stage_cosines_are: { HasStages 11 (λ k. cos_of (quarter 9) k) stage_cosines.items },
+    ghost stage_sines_are: { HasStages 11 (λ k. sin_of (quarter 9) k) stage_sines.items },
 }
 
 impl Circle {
     /// Builds the circle. All its memory is taken here.
     pub fn new(alloc: Global) -> Result<Circle, NoMemory> {
-        let mut points = ends(alloc)?;
-        for _level in 0..LEVELS {
-            points = refined(alloc, &points)?;
-        }
-        Ok(Circle { points })
+        let quarter = Quarter::new(alloc)?;
+        let tables = Tables::new(alloc, &quarter)?;
+        let stage_cosines = by_stages(alloc, &tables.cosines)?;
+        let stage_sines = by_stages(alloc, &tables.sines)?;
+        let Tables {
+            cosines,
+            sines,
+            window,
+        } = tables;
+        Ok(Circle {
+            cosines,
+            sines,
+            window,
+            stage_cosines,
+            stage_sines,
+        })
     }
 
     /// The cosine of k of 2048 parts of the circle, in units of 2^15.
@@ -36,7 +51,7 @@ impl Circle {
         ensures value { result ≡ cos_of (quarter 9) k }
         ensures bounded { nat_abs result ≤ 32768 }
     {
-        self.direction(k).cos
+        i64::from(self.cosines[k])
     }
 
     /// The sine of k of 2048 parts of the circle, in units of 2^15.
@@ -45,7 +60,7 @@ impl Circle {
         ensures value { result ≡ sin_of (quarter 9) k }
         ensures bounded { nat_abs result ≤ 32768 }
     {
-        self.direction(k).sin
+        i64::from(self.sines[k])
     }
 
     /// The window's value at place n of 2048, in units of 2^15: half of what the cosine lacks to 1, rounded down.
@@ -55,44 +70,25 @@ impl Circle {
         ensures from { pos 0 ≤ℤ result }
         ensures to { result ≤ℤ pos 32768 }
     {
-        (32768 - self.cos(n)).div_euclid(2)
+        i64::from(self.window[n])
     }
 
-    // The direction of the point in the first quarter, turned by as many quarters as k has.
-    fn direction(&self, k: usize) -> Direction
-        requires { k < 2048 }
-        ensures { parts result ≡ direction (quarter 9) k }
+    /// The cosines that a transform's stage turns by which joins halves of `half` = 2^`before` items: item k is that of k
+    /// times 1024 / half of 2048 parts.
+    pub fn stage_cosines(&self, before: u32, half: usize) -> &[i32]
+        requires few { before ≤ 10 }
+        requires half { half ≡ 2 ^ before }
+        ensures { TurnsOf (λ k. cos_of (quarter 9) k) half result.now }
     {
-        Direction::of(self.points[k % STEPS]).turned(k / STEPS)
+        &self.stage_cosines[half..2 * half]
     }
-}
 
-// The two ends of the first quarter.
-fn ends(alloc: Global) -> Result<Vec<Point>, NoMemory>
-    ensures { IfOk result (λ points. pairs points.items ≡ quarter 0) }
-{
-    let mut points = Vec::new(alloc);
-    let first = Point { x: RADIUS, y: 0 };
-    let last = Point { x: 0, y: RADIUS };
-    if points.push(first).is_err() || points.push(last).is_err() {
-        return Err(NoMemory);
+    /// The sines of the same stage.
+    pub fn stage_sines(&self, before: u32, half: usize) -> &[i32]
+        requires few { before ≤ 10 }
+        requires half { half ≡ 2 ^ before }
+        ensures { TurnsOf (λ k. sin_of (quarter 9) k) half result.now }
+    {
+        &self.stage_sines[half..2 * half]
     }
-    Ok(points)
-}
-
-// A midpoint between each two neighbours.
-fn refined(alloc: Global, points: &[Point]) -> Result<Vec<Point>, NoMemory>
-    ensures { IfOk result (λ finer. pairs finer.items ≡ refined (pairs points.now)) }
-{
-    let mut finer = Vec::new(alloc);
-    for i in 0..points.len() {
-        let point = points[i];
-        if finer.push(point).is_err() {
-            return Err(NoMemory);
-        }
-        if i + 1 < points.len() && finer.push(point.midpoint(points[i + 1])).is_err() {
-            return Err(NoMemory);
-        }
-    }
-    Ok(finer)
 }

@@ -46,6 +46,8 @@ impl Decimator {
 
     /// Takes one sample, from -32768 to 32767. Gives a decimated one, in the same range, exactly where the sample
     /// completes one.
+    // Not inlined, since most bytes of a front's complete no sample and need nothing of this.
+    #[inline(never)]
     pub fn push(&mut self, x: i32) -> Option<i32>
         requires { IsSample x }
         ensures factor { self.new.factor ≡ self.old.factor }

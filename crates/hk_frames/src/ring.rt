@@ -55,6 +55,8 @@ impl Frames {
 
     /// Takes the next sample of the segment, from -32768 to 32767, and answers whether it completes a frame: 2048 samples
     /// came, and the first of the last 2048 stands a multiple of 64 from the segment's first.
+    // Not inlined, since most bytes of a front's complete no decimated sample and need nothing of this.
+    #[inline(never)]
     pub fn push(&mut self, y: i32) -> bool
         requires { IsSample y }
         ensures taken { (samples : List ℤ) → HasTaken self.old samples → HasTaken self.new (samples ++ y ∷ []) }

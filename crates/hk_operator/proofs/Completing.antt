@@ -11,11 +11,11 @@ use Rattle.hk_spec_streams.specs.Operator.{Command, AddWords, OpenSong, Audio, C
 use Rattle.hk_spec_streams.specs.Commands as kinds
 use Rattle.hk_spec_streams.specs.Commands.{row_of}
 use Rattle.hk_spec_matching.specs.Catalogue as edits
-use Rattle.hk_spec_runs.specs.Desk.{Desk, Recording, present, refusals, with_edit, song_of, recorded_words, IsReply, answer, after}
+use Rattle.hk_spec_runs.specs.Desk.{Desk, Recording, present, refusals, with_edit, added_song, recorded_words, IsReply, answer, after}
 use Rattle.hk_spec_settings.specs.Refusals.{add_refusals}
 use Rattle.hk_spec_settings.specs.Settings.{Rules}
 use Rattle.hk_block.specs.Looker.{ShelfView}
-use Rattle.hk_operator.specs.Kept.{Words, Keeps}
+use Rattle.hk_operator.specs.WordBuffer.{Buffered, Keeps}
 use Rattle.hk_operator.specs.Draft.{Drafts, DraftsAs}
 use Rattle.hk_operator.specs.declared.draft.Draft.{Draft}
 use Rattle.hk_operator.specs.Sound.{IsFixed, IsAllowedForm, IsRecording, Hears, sound_of}
@@ -28,10 +28,10 @@ use Rattle.hk_operator.specs.declared.recorder.Recorder.{Recorder}
 use Rattle.hk_operator.proofs.Deciding.{decided_as, add_replied, withdraw_replied, close_replied, close_none}
 
 -- what staging a song of these kept words decides
-abbrev pub Adds : ShelfView → ℕ → Words → ShelfView → What → Type 0
+abbrev pub Adds : ShelfView → ℕ → Buffered → ShelfView → What → Type 0
 Adds view id kept view' what = (rules : Rules) (desk : Desk) (all : List ℕ) → IsFixed rules → IsAtDesk rules view desk → Keeps kept all → kept.room ≡ rules.limits.positions
     → IsDecided (first_that_holds (add_refusals rules (present rules desk) id (length all))) what (IsAtDesk rules view' desk)
-    (IsAtDesk rules view' (with_edit rules desk (edits.Add id (song_of rules all))))
+    (IsAtDesk rules view' (with_edit rules desk (edits.Add id (added_song rules all))))
 
 abbrev pub Withdraws : ShelfView → ℕ → ShelfView → What → Type 0
 Withdraws view id view' what = (rules : Rules) (desk : Desk) → IsFixed rules → IsAtDesk rules view desk
@@ -88,15 +88,15 @@ module _ (rules : Rules) (op : Operator) (view : ShelfView) (desk : Desk) where
         let same_id : id ≡ song.id = id_in id song.id (sym is ∙ heard.id) in
         close_replied rules desk (λ now. IsDesk rules op' view' now []) song what same
         (decided_as _ _ what
-        (IsAtDesk rules view' desk) (IsAtDesk rules view' (with_edit rules desk (edits.Add song.id (song_of rules (recorded_words rules song)))))
+        (IsAtDesk rules view' desk) (IsAtDesk rules view' (with_edit rules desk (edits.Add song.id (added_song rules (recorded_words rules song)))))
         (IsDesk rules op' view' (record desk { song = None }) [])
-        (IsDesk rules op' view' (record (with_edit rules desk (edits.Add song.id (song_of rules (recorded_words rules song)))) { song = None }) [])
+        (IsDesk rules op' view' (record (with_edit rules desk (edits.Add song.id (added_song rules (recorded_words rules song)))) { song = None }) [])
         refl
         (λ at. closed_with (record desk { song = None }) refl (song_gone rules view' desk at))
-        (λ none at. closed_with (record (with_edit rules desk (edits.Add song.id (song_of rules (recorded_words rules song)))) { song = None }) refl
-        (song_gone rules view' (with_edit rules desk (edits.Add song.id (song_of rules (recorded_words rules song)))) at))
+        (λ none at. closed_with (record (with_edit rules desk (edits.Add song.id (added_song rules (recorded_words rules song)))) { song = None }) refl
+        (song_gone rules view' (with_edit rules desk (edits.Add song.id (added_song rules (recorded_words rules song)))) at))
         (subst (λ i. IsDecided (first_that_holds (add_refusals rules (present rules desk) i (length (recorded_words rules song)))) what (IsAtDesk rules view' desk)
-        (IsAtDesk rules view' (with_edit rules desk (edits.Add i (song_of rules (recorded_words rules song)))))) same_id
+        (IsAtDesk rules view' (with_edit rules desk (edits.Add i (added_song rules (recorded_words rules song)))))) same_id
         (adds rules desk (recorded_words rules song) h.fixed h.shelf heard.words h.song_room)))
       where
         id_in : (i j : ℕ) → Some i ≡ Some j → i ≡ j
@@ -140,9 +140,9 @@ module _ (rules : Rules) (op : Operator) (view : ShelfView) (desk : Desk) where
         let words : List ℕ = drafts.0 in
         as_drafted command (AddWords op.draft.id words) what drafts.1 h (λ h.
         let both = add_replied rules desk Leaves op.draft.id words what
-        (decided_as _ _ what (IsAtDesk rules view' desk) (IsAtDesk rules view' (with_edit rules desk (edits.Add op.draft.id (song_of rules words))))
-        (IsDesk rules op' view' desk []) (IsDesk rules op' view' (with_edit rules desk (edits.Add op.draft.id (song_of rules words))) []) refl
-        (leaves h same desk refl) (λ none at. leaves h same (with_edit rules desk (edits.Add op.draft.id (song_of rules words))) refl at)
+        (decided_as _ _ what (IsAtDesk rules view' desk) (IsAtDesk rules view' (with_edit rules desk (edits.Add op.draft.id (added_song rules words))))
+        (IsDesk rules op' view' desk []) (IsDesk rules op' view' (with_edit rules desk (edits.Add op.draft.id (added_song rules words))) []) refl
+        (leaves h same desk refl) (λ none at. leaves h same (with_edit rules desk (edits.Add op.draft.id (added_song rules words))) refl at)
         (adds rules desk words h.fixed h.shelf drafts.2 h.room)) in
         (refl, refl, refl, both.0, both.1))
 

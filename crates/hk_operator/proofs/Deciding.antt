@@ -14,7 +14,7 @@ use Rattle.hk_spec_streams.specs.Operator.{Command, AddWords, Close}
 use Rattle.hk_spec_streams.specs.Operator as commands
 use Rattle.hk_spec_matching.specs.Catalogue.{Songs, Limits, has_song, positions_of, edited, edited_by, version}
 use Rattle.hk_spec_matching.specs.Catalogue as edits
-use Rattle.hk_spec_runs.specs.Desk.{Desk, Recording, present, refusals, recorded_words, song_of, with_edit, IsReply, answer, after}
+use Rattle.hk_spec_runs.specs.Desk.{Desk, Recording, present, refusals, recorded_words, added_song, with_edit, IsReply, answer, after}
 use Rattle.hk_spec_settings.specs.Refusals.{add_refusals}
 use Rattle.hk_spec_settings.specs.Settings.{Rules}
 use Rattle.hk_block.specs.Looker.{ShelfView}
@@ -25,7 +25,7 @@ use Rattle.hk_catalogue.specs.Shelves as shelves
 use Rattle.hk_catalogue.specs.declared.refused.Refused as refusing
 use Rattle.hk_catalogue.specs.declared.refused.Refused.TheVariants as refused
 use Rattle.hk_catalogue.proofs.RollSongs.{reasons, allowed, there}
-use Rattle.hk_operator.specs.Kept.{Words, Keeps}
+use Rattle.hk_operator.specs.WordBuffer.{Buffered, Keeps}
 use Rattle.hk_operator.specs.Sound.{IsFixed}
 use Rattle.hk_operator.specs.Desk.{IsAtDesk, IsDecided, StaysPublished}
 
@@ -62,7 +62,7 @@ count_tests rules songs id words fixed most = elim (cases_lt words (2 ^ 64 - 1))
 ]
 
 -- the tests on the shelf, of the words that are counted
-pub kept_reasons : (rules : Rules) (view : ShelfView) (desk : Desk) (kept : Words) (all : List ℕ) (id : ℕ) → IsFixed rules → IsAtDesk rules view desk → Keeps kept all
+pub kept_reasons : (rules : Rules) (view : ShelfView) (desk : Desk) (kept : Buffered) (all : List ℕ) (id : ℕ) → IsFixed rules → IsAtDesk rules view desk → Keeps kept all
     → kept.room ≡ rules.limits.positions → kept.room ≤ 2 ^ 24
     → option_map reason_of (first_that_holds (add_tests view.limits (lengths_of view.present) id kept.count)) ≡ first_that_holds (add_refusals rules (present rules desk) id (length all))
 kept_reasons rules view desk kept all id fixed at is room most =
@@ -95,7 +95,7 @@ change_at_desk rules view desk change at = record {
 }
 
 -- the words of a song that isn't refused were all kept
-pub all_kept : (rules : Rules) (view : ShelfView) (desk : Desk) (kept : Words) (all : List ℕ) (id : ℕ) → IsAtDesk rules view desk → Keeps kept all
+pub all_kept : (rules : Rules) (view : ShelfView) (desk : Desk) (kept : Buffered) (all : List ℕ) (id : ℕ) → IsAtDesk rules view desk → Keeps kept all
     → kept.room ≡ rules.limits.positions → kept.room ≤ 2 ^ 24 → first_that_holds (add_tests view.limits (lengths_of view.present) id kept.count) ≡ None → kept.words ≡ all
 all_kept rules view desk kept all id at is room most none =
     let may = allowed view.limits (lengths_of view.present) id kept.count none in
@@ -104,14 +104,14 @@ all_kept rules view desk kept all id at is room most none =
     let same : view.limits.positions ≡ rules.limits.positions = ap (λ (l : Limits). l.positions) at.limits in
     is.words ∙ take_all kept.room all (omega (arith, left, count, room, most, same))
 
-song_is : (rules : Rules) (words : List ℕ) → IsFixed rules → shelves.song_of words ≡ song_of rules words
+song_is : (rules : Rules) (words : List ℕ) → IsFixed rules → shelves.song_of words ≡ added_song rules words
 song_is rules words fixed = ap (λ n. record { words = words; limit = n }) (sym fixed.errors)
 
 -- the desk with a song that is staged
 pub song_at_desk : (rules : Rules) (view : ShelfView) (desk : Desk) (id : ℕ) (words all : List ℕ) → IsFixed rules → IsAtDesk rules view desk → words ≡ all
-    → IsAtDesk rules (with_change view (edits.Add id (shelves.song_of words))) (with_edit rules desk (edits.Add id (song_of rules all)))
+    → IsAtDesk rules (with_change view (edits.Add id (shelves.song_of words))) (with_edit rules desk (edits.Add id (added_song rules all)))
 song_at_desk rules view desk id words all fixed at same =
-    subst (λ ws. IsAtDesk rules (with_change view (edits.Add id (shelves.song_of words))) (with_edit rules desk (edits.Add id (song_of rules ws)))) same
+    subst (λ ws. IsAtDesk rules (with_change view (edits.Add id (shelves.song_of words))) (with_edit rules desk (edits.Add id (added_song rules ws)))) same
     (subst (λ s. IsAtDesk rules (with_change view (edits.Add id (shelves.song_of words))) (with_edit rules desk (edits.Add id s))) (song_is rules words fixed)
     (change_at_desk rules view desk (edits.Add id (shelves.song_of words)) at))
 
@@ -140,11 +140,11 @@ module _ (rules : Rules) (desk : Desk) (Leaves : Desk → Type 0) where
     replied None (Refused reason) is decided = (inr (ap (λ r. Refused r) decided.0, is), stays reason decided.1)
 
   pub add_replied : (id : ℕ) (words : List ℕ) (what : What)
-      → IsDecided (first_that_holds (add_refusals rules (present rules desk) id (length words))) what (Leaves desk) (Leaves (with_edit rules desk (edits.Add id (song_of rules words))))
+      → IsDecided (first_that_holds (add_refusals rules (present rules desk) id (length words))) what (Leaves desk) (Leaves (with_edit rules desk (edits.Add id (added_song rules words))))
       → IsReply rules desk (AddWords id words) what × Leaves (after rules desk (AddWords id words) what)
   unfolding answer after
   add_replied id words what decided =
-      replied (AddWords id words) (Leaves (with_edit rules desk (edits.Add id (song_of rules words)))) (Leaves desk) refl (λ s. s) (λ reason s. s)
+      replied (AddWords id words) (Leaves (with_edit rules desk (edits.Add id (added_song rules words)))) (Leaves desk) refl (λ s. s) (λ reason s. s)
       (first_that_holds (add_refusals rules (present rules desk) id (length words))) what refl decided
 
   pub withdraw_replied : (id : ℕ) (what : What)
@@ -158,13 +158,13 @@ module _ (rules : Rules) (desk : Desk) (Leaves : Desk → Type 0) where
   -- on a desk whose song is this one
   close_some : (song : Recording) (what : What)
       → IsDecided (first_that_holds (add_refusals rules (present rules desk) song.id (length (recorded_words rules song)))) what (Leaves (record desk { song = None }))
-      (Leaves (record (with_edit rules desk (edits.Add song.id (song_of rules (recorded_words rules song)))) { song = None }))
+      (Leaves (record (with_edit rules desk (edits.Add song.id (added_song rules (recorded_words rules song)))) { song = None }))
       → IsReply rules (record desk { song = Some song }) Close what × Leaves (after rules (record desk { song = Some song }) Close what)
   unfolding answer after
   close_some song what decided = by (first_that_holds (add_refusals rules (present rules desk) song.id (length (recorded_words rules song)))) what refl decided
     where
       by : (t : Option Reason) (w : What) → first_that_holds (add_refusals rules (present rules desk) song.id (length (recorded_words rules song))) ≡ t
-          → IsDecided t w (Leaves (record desk { song = None })) (Leaves (record (with_edit rules desk (edits.Add song.id (song_of rules (recorded_words rules song)))) { song = None }))
+          → IsDecided t w (Leaves (record desk { song = None })) (Leaves (record (with_edit rules desk (edits.Add song.id (added_song rules (recorded_words rules song)))) { song = None }))
           → IsReply rules (record desk { song = Some song }) Close w × Leaves (after rules (record desk { song = Some song }) Close w)
       by (Some reason) w is d =
           (inl (d.0 ∙ sym (ap (λ o. option_map_or (λ r. Refused r) o Done) is)), subst (λ v. Leaves (after rules (record desk { song = Some song }) Close v)) (sym d.0) d.1)
@@ -174,7 +174,7 @@ module _ (rules : Rules) (desk : Desk) (Leaves : Desk → Type 0) where
 
   pub close_replied : (song : Recording) (what : What) → desk.song ≡ Some song
       → IsDecided (first_that_holds (add_refusals rules (present rules desk) song.id (length (recorded_words rules song)))) what (Leaves (record desk { song = None }))
-      (Leaves (record (with_edit rules desk (edits.Add song.id (song_of rules (recorded_words rules song)))) { song = None }))
+      (Leaves (record (with_edit rules desk (edits.Add song.id (added_song rules (recorded_words rules song)))) { song = None }))
       → IsReply rules desk Close what × Leaves (after rules desk Close what)
   close_replied song what is decided =
       subst (λ o. IsReply rules (record desk { song = o }) Close what × Leaves (after rules (record desk { song = o }) Close what)) (sym is) (close_some song what decided)
@@ -205,7 +205,7 @@ pub no_memory_so : (tests : Option Reason) (Stays Staged : Type 0) → tests ≡
 no_memory_so tests Stays Staged is stays = subst (λ t. IsDecided t (Refused NoMemory) Stays Staged) (sym is) (refl, stays)
 
 -- the tests of a block's words are those of the words that are counted, where no test holds of these
-pub tests_of_block : (rules : Rules) (view : ShelfView) (desk : Desk) (kept : Words) (all : List ℕ) (id : ℕ) (words : List ℕ) → IsFixed rules → IsAtDesk rules view desk → Keeps kept all
+pub tests_of_block : (rules : Rules) (view : ShelfView) (desk : Desk) (kept : Buffered) (all : List ℕ) (id : ℕ) (words : List ℕ) → IsFixed rules → IsAtDesk rules view desk → Keeps kept all
     → kept.room ≡ rules.limits.positions → kept.room ≤ 2 ^ 24 → words ≡ kept.words → first_that_holds (add_tests view.limits (lengths_of view.present) id kept.count) ≡ None
     → (option_map reason_of (first_that_holds (add_tests view.limits (lengths_of view.present) id (length words))) ≡ first_that_holds (add_refusals rules (present rules desk) id (length all)))
     × (words ≡ all)

@@ -14,8 +14,8 @@ use Rattle.hk_operator_wire.proofs.Reading.{next_bytes}
 use Rattle.hk_operator_wire.proofs.Saying.{Says, SaysNothing, SaysWord, SaysForm, SaysByte, says}
 use Rattle.hk_operator_wire.proofs.Coming.{Begins, Goes, comes}
 use Rattle.hk_operator_wire.proofs.Payloads.{no_words, one_word, same_words, same_id, same_kind, id_is}
-use Rattle.hk_operator.specs.Kept as keeping
-use Rattle.hk_operator.specs.Kept.{Keeps, with_word}
+use Rattle.hk_operator.specs.WordBuffer as keeping
+use Rattle.hk_operator.specs.WordBuffer.{Keeps, with_word}
 use Rattle.hk_operator.specs.Draft.{IsDraft, draft_after}
 use Rattle.hk_operator.specs.declared.draft.Draft.{Draft}
 use Rattle.std.proofs.lemmas.List.{get_or_append_left}
@@ -32,7 +32,7 @@ take_more_kept (suc n) (y ∷ ys) x = ap (λ zs. y ∷ zs) (take_more_kept n ys 
 pub keeps_nothing : (room : ℕ) → Keeps (record { words = []; count = 0; room = room }) []
 keeps_nothing room = record { words = sym (nothing_taken room); count = refl }
 
-pub keeps_more : (kept : keeping.Words) (all : List ℕ) (word : ℕ) → Keeps kept all → Keeps (with_word kept word) (all ++ word ∷ [])
+pub keeps_more : (kept : keeping.Buffered) (all : List ℕ) (word : ℕ) → Keeps kept all → Keeps (with_word kept word) (all ++ word ∷ [])
 keeps_more kept all word is = record {
   words = ap (λ xs. take kept.room (xs ++ word ∷ [])) is.words ∙ take_more_kept kept.room all word;
   count = let c : kept.count ≡ min (length all) (2 ^ 64 - 1) = is.count in omega (arith, c, length-append all (word ∷ []));

@@ -16,7 +16,7 @@ use Rattle.hk_spec_runs.specs.Desk.{Desk, Recording, answer, after, recorded_wor
 use Rattle.hk_spec_settings.specs.Settings.{Rules}
 use Rattle.hk_front.specs.Hearing.{Hearing, HasTaken, KeepsRules, channels_of, factor_of, prints_in}
 use Rattle.hk_spec_sound.proofs.Silence.{samples_of-nil, decimated-nil, frame_energies-nil}
-use Rattle.hk_operator.specs.Kept.{Words, Keeps, with_word, cleared}
+use Rattle.hk_operator.specs.WordBuffer.{Buffered, Keeps, with_word, cleared}
 use Rattle.hk_operator.specs.Sound.{IsFixed, IsAllowedForm, IsRecording, Hears}
 use Rattle.hk_operator.specs.declared.recorder.Recorder.{Recorder}
 use Rattle.hk_operator.proofs.Drafting.{keeps_nothing, keeps_more}
@@ -48,11 +48,11 @@ no_prints front channels factor =
     ∙ ap (λ es. map (λ e. print_of front.flips (differences e.0 e.1)) (adjacent es)) (frame_energies-nil full_analysis)
 
 -- the kept words with a print's
-abbrev pub kept_after : Words → Option Print → Words
+abbrev pub kept_after : Buffered → Option Print → Buffered
 kept_after kept None = kept
 kept_after kept (Some print) = with_word kept print.word
 
-keeps_print : (kept : Words) (all : List ℕ) (print : Option Print) → Keeps kept all
+keeps_print : (kept : Buffered) (all : List ℕ) (print : Option Print) → Keeps kept all
     → Keeps (kept_after kept print) (all ++ map (λ (p : Print). p.word) (option_to_list print))
 keeps_print kept all None is = subst (Keeps kept) (sym (append-nil all)) is
 keeps_print kept all (Some print) is = keeps_more kept all print.word is
@@ -179,7 +179,7 @@ pub allowed_factor : (form : Form) → IsAllowedForm form → (1 ≤ form.factor
 allowed_factor form is = small_factor form.factor is.1
 
 -- a song that begins
-pub song_begun : (rules : Rules) (r : Recorder) (desk : Desk) (id : ℕ) (form : Form) (kept : Words) → IsFixed rules → IsAllowedForm form
+pub song_begun : (rules : Rules) (r : Recorder) (desk : Desk) (id : ℕ) (form : Form) (kept : Buffered) → IsFixed rules → IsAllowedForm form
     → r.song ≡ Some id → channels_of r.front ≡ form.channels → factor_of r.front ≡ form.factor → HasTaken r.front [] → r.words ≡ cleared kept
     → IsRecording rules r (after rules desk (OpenSong id form) Done).song []
 unfolding after
@@ -195,7 +195,7 @@ song_begun rules r desk id form kept fixed allowed song channels factor taken wo
       channels = channels;
       factor = factor;
       taken = taken;
-      words = subst (Keeps r.words) (sym none) (subst (λ (k : Words). Keeps k []) (sym words) (keeps_nothing kept.room));
+      words = subst (Keeps r.words) (sym none) (subst (λ (k : Buffered). Keeps k []) (sym words) (keeps_nothing kept.room));
     }
 
 pub none_not_some : {A : Type 0} (o : Option A) → is_some o ≡ true → o ≡ None → ⊥

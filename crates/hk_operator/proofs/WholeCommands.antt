@@ -13,7 +13,7 @@ use Rattle.hk_spec_streams.proofs.GrowingCommands.{whole_command}
 use Rattle.hk_operator_wire.specs.Taken.{IsInOrder}
 use Rattle.hk_operator_wire.proofs.Ending.{content_is, has_id_is, fits_is, no_row}
 use Rattle.hk_operator.specs.Draft.{IsDraft, Drafts, DraftsAs}
-use Rattle.hk_operator.specs.Kept.{Keeps}
+use Rattle.hk_operator.specs.WordBuffer.{Keeps}
 use Rattle.hk_operator.specs.Sound.{IsAllowedForm, sound_of, sound_if, sound_there}
 use Rattle.hk_operator.specs.declared.draft.Draft.{Draft}
 

@@ -5,7 +5,7 @@ use Rattle.hk_spec_streams.specs.Commands.{Row, Words, SoundForm, row_of, has_id
 use Rattle.hk_spec_streams.specs.Operator.{Command, AddWords, OpenSong, Audio, Close, Withdraw, Publish, id_of, words_of}
 use Rattle.hk_operator_wire.specs.declared.item.Part.{Part}
 use Rattle.hk_operator_wire.specs.declared.item.Part.TheVariants as parts
-use Rattle.hk_operator.specs.Kept.{no_words, cleared, with_word, Keeps}
+use Rattle.hk_operator.specs.WordBuffer.{no_words, cleared, with_word, Keeps}
 use Rattle.hk_operator.specs.Sound.{IsAllowedForm}
 use Rattle.hk_operator.specs.declared.draft.Draft.{Draft}
 

@@ -1,4 +1,4 @@
-pub mod Kept
+pub mod WordBuffer
 pub mod Inside
 pub mod Draft
 pub mod Sound

@@ -14,7 +14,7 @@ use Rattle.hk_operator_wire.specs.declared.item.Part.TheVariants as parts
 use Rattle.hk_operator_wire.specs.Items.{is_whole_command}
 use Rattle.hk_front.specs.Hearing.{channels_of, factor_of}
 use Rattle.hk_front.specs.Hearing as front
-use Rattle.hk_operator.specs.Kept.{Keeps}
+use Rattle.hk_operator.specs.WordBuffer.{Keeps}
 use Rattle.hk_operator.specs.declared.recorder.Recorder.{Recorder}
 
 -- the rules that are built in

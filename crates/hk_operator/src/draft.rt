@@ -2,7 +2,7 @@
 ghost use Rattle.std.specs.Prelude.{◌≡◌, ◌≤◌, ◌^◌, IfOk};
 ghost use Rattle.hk_operator.specs.Draft.{new_draft, draft_after};
 
-use crate::kept::Kept;
+use crate::word_buffer::WordBuffer;
 use hk_base::{Form, NoMemory};
 use hk_operator_wire::Part;
 use std::alloc::Global;
@@ -13,7 +13,7 @@ pub struct Draft {
     pub kind: u8,
     pub id: u32,
     pub form: Form,
-    pub words: Kept,
+    pub words: WordBuffer,
 }
 
 impl Draft {
@@ -30,7 +30,7 @@ impl Draft {
                 channels: 1,
                 factor: 1,
             },
-            words: Kept::new(alloc, room)?,
+            words: WordBuffer::new(alloc, room)?,
         })
     }
 

@@ -8,12 +8,12 @@
 
 mod done;
 mod draft;
-mod kept;
 mod operator;
 mod recorder;
 mod staging;
 #[cfg(test)]
 mod tests;
+mod word_buffer;
 
 pub use done::Done;
 pub use hk_base::{NoMemory, OpEnd, Reply};

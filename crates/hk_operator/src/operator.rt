@@ -80,7 +80,8 @@ impl Operator {
         }
     }
 
-    // Obeys the command, which is whole.
+    // Obeys the command, which is whole. Its large locals stay out of what is called for each byte.
+    #[inline(never)]
     fn complete<S: Shelf>(&mut self, shelf: &mut S) -> Done
         ensures answered { (rules : Rules) (desk : Desk) (command : Command) → IsDesk rules self.old (S.shelf shelf.old) desk (sound_of command)
             → Drafts self.old.draft command

@@ -3,10 +3,10 @@ ghost use Rattle.std.specs.Prelude.{◌≡◌, ◌≤◌, ◌^◌, ◌++◌, [],
 ghost use Rattle.hk_spec_runs.specs.Desk.{Desk, Recording, answer, after};
 ghost use Rattle.hk_spec_settings.specs.Settings.{Rules};
 ghost use Rattle.hk_spec_streams.specs.Operator.{OpenSong, Audio};
-ghost use Rattle.hk_operator.specs.Kept.{no_words};
+ghost use Rattle.hk_operator.specs.WordBuffer.{no_words};
 ghost use Rattle.hk_operator.specs.Sound.{IsRecording, IsFixed, sound_in, IsAllowedForm};
 
-use crate::kept::Kept;
+use crate::word_buffer::WordBuffer;
 use hk_base::{Form, NoMemory, Reason, What};
 use hk_front::Front;
 use hk_operator_wire::Part;
@@ -17,7 +17,7 @@ use std::alloc::Global;
 pub struct Recorder {
     pub front: Front,
     pub song: Option<u32>,
-    pub words: Kept,
+    pub words: WordBuffer,
 }
 
 // The number where it is 1 to `most`, and else the nearer of them.
@@ -47,7 +47,7 @@ impl Recorder {
         Ok(Recorder {
             front: Front::new(alloc, 0)?,
             song: None,
-            words: Kept::new(alloc, room)?,
+            words: WordBuffer::new(alloc, room)?,
         })
     }
 

@@ -1,18 +1,18 @@
 // Edits that are staged, or refused with their reason.
 ghost use Rattle.std.specs.Prelude.{◌≡◌, List, ℕ, length, option_map};
 ghost use Rattle.hk_spec_streams.specs.Pieces.{first_that_holds};
-ghost use Rattle.hk_spec_runs.specs.Desk.{Desk, present, refusals, with_edit, song_of};
+ghost use Rattle.hk_spec_runs.specs.Desk.{Desk, present, refusals, with_edit, added_song};
 ghost use Rattle.hk_spec_settings.specs.Refusals.{add_refusals};
 ghost use Rattle.hk_spec_settings.specs.Settings.{Rules};
 ghost use Rattle.hk_spec_streams.specs.Operator.{Withdraw};
 ghost use Rattle.hk_spec_matching.specs.Catalogue as edits;
 ghost use Rattle.hk_catalogue.specs.Refusals.{reason_of};
 ghost use Rattle.hk_catalogue.specs.Shelf.{IsChange, refusal_of, with_staged};
-ghost use Rattle.hk_operator.specs.Kept.{Keeps};
+ghost use Rattle.hk_operator.specs.WordBuffer.{Keeps};
 ghost use Rattle.hk_operator.specs.Sound.{IsFixed};
 ghost use Rattle.hk_operator.specs.Desk.{IsAtDesk, IsDecided, StaysPublished};
 
-use crate::kept::Kept;
+use crate::word_buffer::WordBuffer;
 use hk_base::{NoMemory, Reason, What};
 use hk_catalogue::{Edit, Refused, Shelf, StageFault};
 use hk_table::SongBlock;
@@ -47,11 +47,11 @@ fn stage<S: Shelf>(edit: Edit, shelf: &mut S) -> What
 }
 
 /// Stages a song of these words, or tells why it can't be.
-pub fn add<S: Shelf>(alloc: Global, id: u32, words: &Kept, shelf: &mut S) -> What
+pub fn add<S: Shelf>(alloc: Global, id: u32, words: &WordBuffer, shelf: &mut S) -> What
     ensures decided { (rules : Rules) (desk : Desk) (all : List ℕ) → IsFixed rules → IsAtDesk rules (S.shelf shelf.old) desk
         → Keeps words.now all → words.now.room ≡ rules.limits.positions
         → IsDecided (first_that_holds (add_refusals rules (present rules desk) id (length all))) result
-        (IsAtDesk rules (S.shelf shelf.new) desk) (IsAtDesk rules (S.shelf shelf.new) (with_edit rules desk (edits.Add id (song_of rules all)))) }
+        (IsAtDesk rules (S.shelf shelf.new) desk) (IsAtDesk rules (S.shelf shelf.new) (with_edit rules desk (edits.Add id (added_song rules all)))) }
     ensures published { StaysPublished (S.shelf shelf.old) (S.shelf shelf.new) }
 {
     if let Err(refused) = shelf.check_add(id, words.count()) {

@@ -4,12 +4,12 @@ use Rattle.std.specs.Prelude.{◌==◌, ◌&&◌, nat_lt, slice_index}
 use Rattle.std.specs.Option.{option_map_or}
 use Rattle.std.proofs.lemmas.Bool.{cases_lt, le-ltb, ne_eqb}
 use Rattle.hk_spec_streams.specs.Commands.{Row, Content, Words, SoundForm, Sound, Nothing, row_of}
-use Rattle.hk_operator_wire.specs.declared.head.Head.{Head}
+use Rattle.hk_operator_wire.specs.declared.head.CommandHead.{CommandHead}
 use Rattle.hk_operator_wire.specs.declared.item.Part.TheVariants as parts
 use Rattle.hk_operator_wire.specs.Items.{head_of, last_number, content_brought, row_brought, brought_by, brought}
 
 -- before the fourth payload byte the last four bytes don't matter
-module _ (h : Head) (n m byte : ℕ) (few : h.count < 5) where
+module _ (h : CommandHead) (n m byte : ℕ) (few : h.count < 5) where
   content_few : (content : Content) → content_brought content h n byte ≡ content_brought content h m byte
   content_few Words =
       let none : nat_lt 4 (h.count - 5) ≡ false = le-ltb 4 (h.count - 5) (omega (arith, few)) in

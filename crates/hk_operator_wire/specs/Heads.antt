@@ -2,7 +2,7 @@
 use Rattle.std.specs.Prelude.{◌≡◌, ℕ, ◌-◌, ◌==◌, Bool, not, ◌&&◌, ◌||◌, if◌then◌else◌, List, [], ◌∷◌, ◌++◌, length, drop, slice_index, codes, Option, is_some, Result, Ok, Err}
 use Rattle.hk_base.specs.declared.plain.WireFault.{WireFault}
 use Rattle.hk_base.specs.declared.plain.WireFault.TheVariants.{BadHello, BadKind, BadLength, BadFormat}
-use Rattle.hk_operator_wire.specs.declared.head.Head.{Head}
+use Rattle.hk_operator_wire.specs.declared.head.CommandHead.{CommandHead}
 use Rattle.hk_operator_wire.specs.declared.recent.LastFour.{LastFour}
 use Rattle.hk_operator_wire.specs.declared.item.OpItem.{OpItem}
 use Rattle.hk_operator_wire.specs.declared.item.OpItem.TheVariants as items
@@ -27,14 +27,14 @@ abbrev pub hello_outcome : ℕ → ℕ → Result OpItem WireFault
 hello_outcome place byte = if hello_allows place byte then Ok items.Nothing else Err (BadHello place)
 
 -- a form's byte that isn't allowed there
-abbrev pub has_bad_byte : Head → Bool
+abbrev pub has_bad_byte : CommandHead → Bool
 has_bad_byte head = ((head.count == 10) && not (is_one_of CHANNELS head.channels)) || ((head.count == 11) && not (is_one_of FACTORS head.factor))
 
-abbrev pub has_bad_form : Row → Head → Bool
+abbrev pub has_bad_form : Row → CommandHead → Bool
 has_bad_form row head = is_form row.content && has_bad_byte head
 
 -- what is wrong with a command whose last byte that came stands at this place
-abbrev pub head_fault : ℕ → Head → Option WireFault
+abbrev pub head_fault : ℕ → CommandHead → Option WireFault
 head_fault place head = first_that_holds (
     ((head.count == 1) && not (is_some (row_of head.kind)), BadKind place)
     ∷ ((head.count == 5) && not (command_length_fits head.kind head.length), BadLength (place - 3))

@@ -4,7 +4,7 @@ use Rattle.std.specs.Int.{w32, from_be_bytes}
 use Rattle.std.specs.Option.{option_map_or}
 use Rattle.hk_wire.specs.Held.{length_in}
 use Rattle.hk_wire.specs.declared.packet.LengthSize.TheVariants.{Four}
-use Rattle.hk_operator_wire.specs.declared.head.Head.{Head}
+use Rattle.hk_operator_wire.specs.declared.head.CommandHead.{CommandHead}
 use Rattle.hk_operator_wire.specs.declared.item.OpItem.{OpItem}
 use Rattle.hk_operator_wire.specs.declared.item.OpItem.TheVariants as items
 use Rattle.hk_operator_wire.specs.declared.item.OpLast.TheVariants as lasts
@@ -24,7 +24,7 @@ abbrev pub is_whole_command : List ℕ → Bool
 is_whole_command bytes = packet_size w32 bytes == length bytes
 
 -- what the first bytes of a command say
-abbrev pub head_of : List ℕ → Head
+abbrev pub head_of : List ℕ → CommandHead
 head_of bytes = record {
   kind = slice_index bytes 0;
   count = length bytes;
@@ -39,18 +39,18 @@ last_number bytes = from_be_bytes w32 (drop (length bytes - 4) bytes)
 
 -- What the last byte of a command brings, by what the command's first bytes say and its last four bytes as a number: a word
 -- with each four bytes behind the id, the form with the sixth payload byte, and each byte of sound.
-abbrev pub content_brought : Content → Head → ℕ → ℕ → Part
+abbrev pub content_brought : Content → CommandHead → ℕ → ℕ → Part
 content_brought Words head number byte = if nat_lt 4 (head.count - 5) && ((head.count - 5) % 4 == 0) then parts.Word number else parts.Nothing
 content_brought SoundForm head number byte = if head.count - 5 == 6 then parts.Form (record { channels = head.channels; factor = head.factor }) else parts.Nothing
 content_brought Sound head number byte = if nat_lt 0 (head.count - 5) then parts.Byte byte else parts.Nothing
 content_brought Nothing head number byte = parts.Nothing
 
 -- the id comes with the fourth payload byte
-abbrev pub row_brought : Row → Head → ℕ → ℕ → Part
+abbrev pub row_brought : Row → CommandHead → ℕ → ℕ → Part
 row_brought row head number byte = if row.has_id && (head.count == 9) then parts.Id number else content_brought row.content head number byte
 
 -- the kind comes with the last length byte
-abbrev pub brought_by : Head → ℕ → ℕ → Part
+abbrev pub brought_by : CommandHead → ℕ → ℕ → Part
 brought_by head number byte =
     if head.count == 5 then parts.Begin head.kind else option_map_or (λ row. row_brought row head number byte) (row_of head.kind) parts.Nothing
 

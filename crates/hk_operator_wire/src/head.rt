@@ -11,7 +11,7 @@ use hk_limits::{allows_channels, allows_factor};
 
 /// A command's kind, how many of its bytes came, its length, and the bytes of a form; what didn't come counts as 0.
 #[derive(Clone, Copy, Debug)]
-pub struct Head {
+pub struct CommandHead {
     pub kind: u8,
     pub count: u64,
     pub length: u32,
@@ -32,7 +32,7 @@ pub fn hello_allows(place: u64, byte: u8) -> bool
 }
 
 // Whether the last byte belongs to a form, and isn't allowed there.
-fn has_bad_form(row: Row, head: Head) -> bool
+fn has_bad_form(row: Row, head: CommandHead) -> bool
     ensures { result ≡ has_bad_form (row_meant row) head }
 {
     row.content.is_form()
@@ -44,7 +44,7 @@ fn has_bad_form(row: Row, head: Head) -> bool
 }
 
 /// What is wrong with a command whose last byte that came stands at this place.
-pub fn head_fault(place: u64, head: Head) -> Option<WireFault>
+pub fn head_fault(place: u64, head: CommandHead) -> Option<WireFault>
     requires { 3 ≤ place }
     ensures { result ≡ head_fault place head }
 {
@@ -65,7 +65,7 @@ pub fn head_fault(place: u64, head: Head) -> Option<WireFault>
 }
 
 /// What the command's last byte that came brings; `number` is the last four bytes.
-pub fn brought_by(head: Head, number: u32, byte: u8) -> Part
+pub fn brought_by(head: CommandHead, number: u32, byte: u8) -> Part
     ensures { result ≡ brought_by head number byte }
 {
     if head.count == 5 {
@@ -78,7 +78,7 @@ pub fn brought_by(head: Head, number: u32, byte: u8) -> Part
 }
 
 // The same behind the kind's length.
-fn row_brought(row: Row, head: Head, number: u32, byte: u8) -> Part
+fn row_brought(row: Row, head: CommandHead, number: u32, byte: u8) -> Part
     ensures { result ≡ row_brought (row_meant row) head number byte }
 {
     if row.has_id && head.count == 9 {

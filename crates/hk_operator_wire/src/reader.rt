@@ -7,7 +7,7 @@ ghost use Rattle.hk_wire.specs.Held.{length_size, IsLast};
 ghost use Rattle.hk_wire.specs.declared.packet.LengthSize.TheVariants.{Four};
 ghost use Rattle.hk_operator_wire.specs.Heads.{hello_outcome};
 
-use crate::head::{Head, brought_by, head_fault, hello_allows};
+use crate::head::{CommandHead, brought_by, head_fault, hello_allows};
 use crate::item::OpItem;
 use crate::recent::LastFour;
 use hk_base::WireFault;
@@ -62,7 +62,7 @@ impl OpReader {
     }
 
     // What the last command's last byte brings.
-    fn item(&self, head: Head, byte: u8) -> OpItem
+    fn item(&self, head: CommandHead, byte: u8) -> OpItem
         ensures { (bytes : List ℕ) → IsLast self.now.packet bytes → Ends self.now.recent bytes → 0 < length bytes
             → head ≡ head_of bytes → byte ≡ slice_index bytes (length bytes - 1) → result ≡ item_of bytes }
     {
@@ -72,10 +72,10 @@ impl OpReader {
         )
     }
 
-    fn head(&self) -> Head
+    fn head(&self) -> CommandHead
         ensures { (bytes : List ℕ) → IsLast self.now.packet bytes → result ≡ head_of bytes }
     {
-        Head {
+        CommandHead {
             kind: self.packet.kind(),
             count: self.packet.count(),
             length: self.packet.length(),

@@ -1,5 +1,10 @@
-pub mod Pairs
+pub mod Sums
 pub mod Matches
 pub mod Starts
 pub mod Songs
+pub mod Finds
+pub mod Order
+pub mod Once
+pub mod Places
+pub mod Visits
 pub mod Changes

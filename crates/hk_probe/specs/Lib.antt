@@ -1,3 +1,4 @@
 pub mod Comparison
+pub mod Search
 pub mod Single
 pub mod Inside

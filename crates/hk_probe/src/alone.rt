@@ -1,14 +1,15 @@
 // A catalogue for one thread.
-ghost use Rattle.std.specs.Prelude.{◌≡◌, ◌≤◌, ◌^◌, None, Some, true, IfOk, IsTrue, OnOk, OnErr};
+ghost use Rattle.std.specs.Prelude.{◌≡◌, ◌≤◌, ◌+◌, ◌*◌, ◌^◌, None, Some, true, IfOk, IsTrue, OnOk, OnErr};
 ghost use Rattle.std.specs.List.{All};
 ghost use Rattle.hk_spec_matching.specs.Catalogue.{Limits, edited_by};
+ghost use Rattle.hk_spec_matching.specs.Cost.{cost};
 ghost use Rattle.hk_block.specs.Ring.{is_full};
-ghost use Rattle.hk_block.specs.Looker.{matches_in};
+ghost use Rattle.hk_block.specs.Looker.{matches_in, query_of};
 ghost use Rattle.hk_catalogue.specs.Shelves.{songs_of, HasLimits};
 ghost use Rattle.hk_catalogue.specs.Shelf.{IsChange, changes_of};
 ghost use Rattle.hk_probe.specs.Single.{new_single, after_publish, publish_answer, shelf_of, looker_of};
 
-use crate::full_scan::scan;
+use crate::table_search::look;
 use hk_base::{NoMemory, Steps};
 use hk_block::{BlockRing, Looker, Scratch};
 use hk_catalogue::{Catalogue, Edit, Refused, Roll, Shelf, StageFault};
@@ -130,8 +131,9 @@ impl Looker for Alone {
         ensures list { scratch.new.matches ≡ matches_in ring.now self.new.songs }
         ensures scratch_room { scratch.new.room ≡ scratch.old.room }
         ensures unchanged { self.new ≡ self.old }
+        ensures bound { steps.new ≤ steps.old + 257 * cost self.new.limits.positions (query_of ring.now) self.new.songs }
     {
-        scan(&self.published, ring, scratch, steps);
+        look(&self.published, ring, scratch, steps);
         self.version()
     }
 

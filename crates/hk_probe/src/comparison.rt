@@ -1,22 +1,36 @@
 // Prints beside as many words of a song.
-ghost use Rattle.std.specs.Prelude.{◌≡◌, ◌≤◌, zip, count_ones, bit_xor};
-ghost use Rattle.std.specs.List.{list_any};
-ghost use Rattle.hk_spec_matching.specs.Matching.{errors_of, is_hit};
-ghost use Rattle.hk_probe.specs.Comparison.{IsMatchAt};
+ghost use Rattle.std.specs.Prelude.{◌≡◌, ◌≤◌, ◌<◌, zip};
+ghost use Rattle.std.specs.List.{position_or_len};
+ghost use Rattle.hk_spec_matching.specs.Matching.{is_hit, words_of};
+ghost use Rattle.hk_probe.specs.Comparison.{IsMatchAt, IsFirstMatchAt, match_within};
 
 use hk_base::{Match, Print};
+use hk_errors::within;
 
 pub const BLOCK_SIZE: usize = 256;
 
 // The errors that a match may have: 0.35 of the bits of a block, rounded down.
 const MOST_ERRORS: u32 = 2867;
 
-// How many bits differ between two words.
-fn differing_bits(a: u32, b: u32) -> u32
-    ensures count { result ≡ count_ones (bit_xor a b) }
-    ensures most { result ≤ 32 }
-{
-    (a ^ b).count_ones()
+/// What is looked up: the prints of a block, and their words alone.
+#[derive(Drop)]
+pub struct Block {
+    pub prints: [Print; 256],
+    pub words: [u32; 256],
+    ghost words_are: { words ≡ words_of prints },
+}
+
+impl Block {
+    /// The block of these prints.
+    pub fn new(prints: [Print; 256]) -> Block
+        ensures { result.prints ≡ prints }
+    {
+        let mut words = [0; BLOCK_SIZE];
+        for j in 0..BLOCK_SIZE {
+            words[j] = prints[j].word;
+        }
+        Block { prints, words }
+    }
 }
 
 // Whether no bit differs outside the print's mask.
@@ -27,36 +41,51 @@ fn is_hit(print: Print, word: u32) -> bool
     difference & print.mask == difference
 }
 
-// How many bits differ between the prints and as many words.
-fn errors_at(words: &[u32; 256], prints: &[Print; 256]) -> u32
-    ensures { result ≡ errors_of prints.now words.now }
-{
-    let mut errors = 0;
-    for j in 0..BLOCK_SIZE {
-        errors += differing_bits(prints[j].word, words[j]);
-    }
-    errors
-}
-
-// Whether some print differs from its word in no bit outside its mask.
-fn hits(words: &[u32; 256], prints: &[Print; 256]) -> bool
-    ensures { result ≡ list_any is_hit (zip prints.now words.now) }
+// The first print that differs from its word in no bit outside its mask, and 256 where there is none.
+fn first_hit(words: &[u32; 256], prints: &[Print; 256]) -> usize
+    ensures first { result ≡ position_or_len is_hit (zip prints.now words.now) }
+    ensures most { result ≤ 256 }
 {
     for j in 0..BLOCK_SIZE {
         if is_hit(prints[j], words[j]) {
-            return true;
+            return j;
         }
     }
-    false
+    BLOCK_SIZE
+}
+
+// The match at a start of a song, whose words from there on are these, where its errors are within the limit.
+fn match_within(id: u32, start: u32, words: &[u32; 256], block: &Block) -> Option<Match>
+    ensures { result ≡ match_within block.now.prints id start words.now }
+{
+    let errors = within(&block.words, words, MOST_ERRORS)?;
+    Some(Match { id, start, errors })
 }
 
 /// The match at a start of a song, whose words from there on are these.
-pub fn match_at(id: u32, start: u32, words: &[u32; 256], prints: &[Print; 256]) -> Option<Match>
-    ensures { IsMatchAt prints.now id start words.now result }
+pub fn match_at(id: u32, start: u32, words: &[u32; 256], block: &Block) -> Option<Match>
+    ensures { IsMatchAt block.now.prints id start words.now result }
 {
-    let errors = errors_at(words, prints);
-    if errors <= MOST_ERRORS && hits(words, prints) {
-        Some(Match { id, start, errors })
+    if first_hit(words, &block.prints) < BLOCK_SIZE {
+        match_within(id, start, words, block)
+    } else {
+        None
+    }
+}
+
+/// The match at a start of a song, where print `j` is the first that hits there.
+pub fn first_match_at(
+    j: usize,
+    id: u32,
+    start: u32,
+    words: &[u32; 256],
+    block: &Block,
+) -> Option<Match>
+    requires { j < 256 }
+    ensures { IsFirstMatchAt block.now.prints j id start words.now result }
+{
+    if first_hit(words, &block.prints) == j {
+        match_within(id, start, words, block)
     } else {
         None
     }

@@ -6,8 +6,8 @@ ghost use Rattle.hk_block.specs.Looker.{matches_in};
 ghost use Rattle.hk_catalogue.specs.Shelves.{songs_of, entry_of};
 ghost use Rattle.hk_probe.specs.Comparison.{query_of_prints};
 
-use crate::comparison::{BLOCK_SIZE, match_at};
-use hk_base::{Print, Steps};
+use crate::comparison::{BLOCK_SIZE, Block, match_at};
+use hk_base::Steps;
 use hk_block::{BlockRing, Scratch};
 use hk_catalogue::Catalogue;
 use hk_table::Song;
@@ -26,29 +26,24 @@ pub fn scan<L: Ledger>(
     ensures list { scratch.new.matches ≡ matches_in ring.now (songs_of catalogue.now) }
     ensures room { scratch.new.room ≡ scratch.old.room }
 {
-    let prints = ring.prints();
+    let block = Block::new(ring.prints());
     scratch.clear();
     for n in 0..catalogue.count() {
-        list_song(&catalogue.nth(n), &prints, scratch, steps);
+        list_song(&catalogue.nth(n), &block, scratch, steps);
     }
 }
 
 // Appends the matches in one song.
-fn list_song<L: Ledger>(
-    song: &Song<'_>,
-    prints: &[Print; 256],
-    scratch: &mut Scratch,
-    steps: &mut Steps<L>,
-)
+fn list_song<L: Ledger>(song: &Song<'_>, block: &Block, scratch: &mut Scratch, steps: &mut Steps<L>)
     requires space { length scratch.old.matches + length song.now.words ≤ scratch.old.room }
-    ensures list { scratch.new.matches ≡ scratch.old.matches ++ matches_of_song (query_of_prints prints.now) (entry_of song.now) }
+    ensures list { scratch.new.matches ≡ scratch.old.matches ++ matches_of_song (query_of_prints block.now.prints) (entry_of song.now) }
     ensures count { length scratch.new.matches ≤ length scratch.old.matches + length song.now.words }
     ensures room { scratch.new.room ≡ scratch.old.room }
 {
     let mut window = [0; BLOCK_SIZE];
     for start in 0..song.length() - (BLOCK_SIZE as u32 - 1) {
         song.window(start, &mut window, steps);
-        if let Some(found) = match_at(song.id(), start, &window, prints) {
+        if let Some(found) = match_at(song.id(), start, &window, block) {
             scratch.put(found);
         }
     }

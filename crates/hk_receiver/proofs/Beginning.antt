@@ -4,7 +4,7 @@ use Rattle.std.specs.Prelude.{◌&&◌, ◌==◌, nat_lt, slice_index}
 use Rattle.hk_spec_sound.specs.Prints.{full_analysis}
 use Rattle.hk_spec_streams.specs.Pieces.{first_met}
 use Rattle.hk_spec_streams.specs.Station.{station_fault}
-use Rattle.hk_spec_streams.specs.LastPacket.{gap_is_open}
+use Rattle.hk_station_wire.specs.LastPacket.{gap_is_open}
 use Rattle.hk_spec_streams.specs.Blocks.{Setting, blocks}
 use Rattle.hk_station_wire.proofs.LastItems.{hello_packet, hello_segments}
 use Rattle.hk_receiver.specs.declared.segment.Segment.{Segment}

@@ -4,7 +4,7 @@ use Rattle.std.proofs.lemmas.List.{append-nil}
 use Rattle.hk_base.specs.declared.plain.Form.{Form}
 use Rattle.hk_spec_sound.specs.Prints.{full_analysis}
 use Rattle.hk_spec_streams.specs.Station.{segments, sent_prints}
-use Rattle.hk_spec_streams.specs.LastPacket.{gap_is_open}
+use Rattle.hk_station_wire.specs.LastPacket.{gap_is_open}
 use Rattle.hk_spec_streams.specs.Blocks.{Setting, Block, blocks, blocks_of_segment}
 use Rattle.hk_station_wire.specs.Says.{heard_form, GainsByte, KeepsSegments, BeginsGap, PartOfPrint, SaysNothing, SaysHello, SaysGap}
 use Rattle.hk_receiver.specs.declared.segment.Segment.{Segment}

@@ -2,7 +2,7 @@
 use Rattle.std.specs.Prelude.{◌≡◌, ℕ, if◌then◌else◌, List, [], ◌∷◌, ◌++◌, length}
 use Rattle.hk_spec_sound.specs.Prints.{full_analysis}
 use Rattle.hk_spec_streams.specs.Station.{segments}
-use Rattle.hk_spec_streams.specs.LastPacket.{gap_is_open}
+use Rattle.hk_station_wire.specs.LastPacket.{gap_is_open}
 use Rattle.hk_spec_streams.specs.Blocks.{Setting}
 use Rattle.hk_spec_runs.specs.Desk.{Rules}
 use Rattle.hk_station_wire.specs.Says.{heard_form}

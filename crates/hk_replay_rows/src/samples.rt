@@ -1,9 +1,8 @@
 // Samples of sound, and a number that tells texts apart.
-use std::alloc::Global;
-use std::test::Fail;
+use std::alloc::{AllocError, Global};
 
 /// So many bytes of silence.
-pub fn silence(alloc: Global, count: usize) -> Result<Vec<u8>, Fail> {
+pub fn silence(alloc: Global, count: usize) -> Result<Vec<u8>, AllocError> {
     let mut bytes = Vec::new(alloc);
     for _ in 0..count {
         bytes.push(0)?;
@@ -11,8 +10,8 @@ pub fn silence(alloc: Global, count: usize) -> Result<Vec<u8>, Fail> {
     Ok(bytes)
 }
 
-/// Pseudo-random samples of 16 bits, as tools/print_sound.py makes them from 17.
-pub fn pseudo_random(alloc: Global, samples: u32) -> Result<Vec<u8>, Fail> {
+/// So many pseudo-random samples of 16 bits, as tools/print_sound.py makes them from 17.
+pub fn pseudo_random(alloc: Global, samples: usize) -> Result<Vec<u8>, AllocError> {
     let mut bytes = Vec::new(alloc);
     let mut state: u64 = 17;
     for _ in 0..samples {
@@ -25,9 +24,9 @@ pub fn pseudo_random(alloc: Global, samples: u32) -> Result<Vec<u8>, Fail> {
 }
 
 /// A number that tells texts apart.
-pub fn digest(text: &str) -> u64 {
+pub fn digest(text: &[u8]) -> u64 {
     let mut digest: u64 = 0;
-    for byte in text.as_bytes() {
+    for byte in text {
         digest = digest
             .wrapping_mul(6364136223846793005)
             .wrapping_add(u64::from(*byte));

@@ -1,9 +1,10 @@
 -- What a look through the table costs.
-use Rattle.std.specs.Prelude.{ℕ, ◌+◌, ◌-◌, ◌*◌, ◌/◌, ◌%◌, ◌^◌, ◌==◌, nat_lt, bit_and, bit_xor, List, map, filter, flat_map, count_by, sum_by}
-use Rattle.std.specs.List.{range_with_len, prefix_len}
+use Rattle.std.specs.Prelude.{ℕ, ◌+◌, ◌==◌, bit_and, bit_xor, List, map, filter, flat_map, count_by, sum_by}
+use Rattle.std.specs.List.{range_with_len}
 use Rattle.hk_base.specs.declared.plain.Print.{Print}
 use Rattle.hk_spec_matching.specs.Catalogue.{Songs}
 use Rattle.hk_spec_matching.specs.Matching.{Query}
+use Rattle.hk_spec_matching.specs.Buckets.{bucket_of}
 
 -- the subsets of a mask's bits, as rising numbers
 unfoldable pub subsets : ℕ → List ℕ
@@ -12,14 +13,6 @@ subsets mask = filter (λ s. bit_and s mask == s) (range_with_len 0 (mask + 1))
 -- the words that are looked up for a print: its word with every subset of its mask flipped
 abbrev pub looked_up : Print → List ℕ
 looked_up print = map (λ s. bit_xor print.word s) (subsets print.mask)
-
--- the least number from 8 to 20 whose power of 2 is at least the positions, and 20 where there is none
-abbrev pub bucket_bits : ℕ → ℕ
-bucket_bits positions = 8 + prefix_len (λ b. nat_lt (2 ^ b) positions) (range_with_len 8 12)
-
--- the upper bits of the 32-bit number word * 2654435761
-abbrev pub bucket_of : ℕ → ℕ → ℕ
-bucket_of positions word = (word * 2654435761 % 2 ^ 32) / 2 ^ (32 - bucket_bits positions)
 
 -- each word of each song
 abbrev pub all_words : Songs → List ℕ

@@ -1,7 +1,5 @@
 -- Small journals for the worked examples.
 use Rattle.std.specs.Prelude.{ℕ, List, [], ◌∷◌}
-use Rattle.hk_base.specs.declared.plain.Print.{Print}
-use Rattle.hk_spec_matching.specs.Matching.{Query}
 use Rattle.hk_spec_matching.specs.Catalogue.{Song, Limits, Add, Withdraw, Journal}
 
 -- two songs, and three words of all songs
@@ -19,7 +17,3 @@ TWICE = (Add 7 (song (5 ∷ [])) ∷ Add 7 (song (6 ∷ [])) ∷ []) ∷ []
 -- a song, then two more of which one has no room, then a withdrawal of the first and of one that isn't there
 abbrev pub CROWDED : Journal
 CROWDED = (Add 7 (song (5 ∷ [])) ∷ []) ∷ (Add 3 (song (1 ∷ 2 ∷ [])) ∷ Add 4 (song (6 ∷ [])) ∷ []) ∷ (Withdraw 7 ∷ Withdraw 9 ∷ []) ∷ []
-
--- what is looked up: these words, with these masks
-abbrev pub query : List Print → Query
-query prints = record { prints = prints }

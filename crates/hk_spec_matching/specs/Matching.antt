@@ -1,5 +1,5 @@
 -- A block against each start of each song.
-use Rattle.std.specs.Prelude.{ℕ, Bool, ◌&&◌, ◌==◌, nat_le, if◌then◌else◌, bit_and, bit_xor, count_ones, List, length, zip, sum_by, flat_map, filter_map, Option, Some, None}
+use Rattle.std.specs.Prelude.{ℕ, Bool, ◌&&◌, ◌==◌, nat_le, if◌then◌else◌, bit_and, bit_xor, count_ones, List, length, map, zip, sum_by, flat_map, filter_map, Option, Some, None}
 use Rattle.std.specs.List.{list_any, enumerate_from}
 use Rattle.hk_base.specs.declared.plain.Print.{Print}
 use Rattle.hk_base.specs.declared.plain.Match.{Match}
@@ -10,6 +10,10 @@ use Rattle.hk_spec_matching.specs.Catalogue.{Song, Songs}
 pub record Query : Type 0 where
   pub prints : List Print
 
+-- what is looked up for some prints
+abbrev pub query_for : List Print → Query
+query_for prints = record { prints = prints }
+
 -- the bits in which a print and a word differ
 abbrev pub difference : Print × ℕ → ℕ
 difference p = bit_xor p.0.word p.1
@@ -18,9 +22,16 @@ difference p = bit_xor p.0.word p.1
 abbrev pub is_hit : Print × ℕ → Bool
 is_hit p = bit_and (difference p) p.0.mask == difference p
 
+-- how many bits differ between the words of two lists
+abbrev pub differing_bits : List ℕ → List ℕ → ℕ
+differing_bits xs ys = sum_by (λ p. count_ones (bit_xor p.0 p.1)) (zip xs ys)
+
+abbrev pub words_of : List Print → List ℕ
+words_of prints = map (λ print. print.word) prints
+
 -- how many bits differ between the prints and the words
 abbrev pub errors_of : List Print → List ℕ → ℕ
-errors_of prints words = sum_by (λ p. count_ones (difference p)) (zip prints words)
+errors_of prints words = differing_bits (words_of prints) words
 
 -- the match at a start of a song, where some print is a hit and the errors are within the song's limit
 unfoldable pub match_at : Query → ℕ × Song → ℕ × List ℕ → Option Match

@@ -17,7 +17,7 @@ use Rattle.hk_spec_lines.proofs.LastBytes.{newlines, HasNewlines, HasNewlines-ap
 use Rattle.hk_spec_settings.specs.Settings.{Rules}
 use Rattle.hk_spec_runs.specs.Replay.{Listener, Scene, end_of, operator_end_of, summary}
 use Rattle.hk_spec_runs.specs.Outcome.{has_ended}
-use Rattle.hk_spec_runs.proofs.SceneEnds.{EndsOtherwise, Kept}
+use Rattle.hk_spec_runs.proofs.SceneEnds.{EndsOtherwise, EndsTell}
 
 station_line_has : (station blocks version : ℕ) (end : Option End) (wrong : Option WireFault) → (end ≡ Some ends.Ended → ⊥)
     → HasNewlines (station_line station blocks version (unwrap_or end (option_map_or (λ fault. ends.Wire fault) wrong ends.Ended))) ((is_none end && is_none wrong) ∷ [])
@@ -68,7 +68,7 @@ module _ (rules : Rules) where
       (lines_have (n + 1) listeners all.1)
 
   -- a summary tells whether all streams ended in order
-  pub summary_tells : (scene : Scene) → Kept rules scene → Told rules scene
+  pub summary_tells : (scene : Scene) → EndsTell rules scene → Told rules scene
   summary_tells scene kept =
       let last : Bool = is_none scene.clerk.end && is_none (operator_wrong rules.bytes scene.clerk.used) in
       let long : length (map in_order scene.listeners ++ last ∷ []) ≡ length (map in_order scene.listeners) + 1 = length-append (map in_order scene.listeners) (last ∷ []) in

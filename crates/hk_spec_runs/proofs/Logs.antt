@@ -1,14 +1,12 @@
 -- What was written since a station's start is the log of the blocks of the bytes that it used.
-use Rattle.std.proofs.Common.{◌≡◌, ◌<◌, ℕ, suc, ◌+◌, List, [], ◌∷◌, ◌++◌, map, length, refl, sym, ◌∙◌, ap, subst, arith, append_assoc, append-nil, length-append, ◌⊎◌, inl, inr, true, false, cond, Option, None, Some, option_map}
-use Rattle.std.specs.Prelude.{flat_map, unwrap_or, zip, nat_lt, find, is_some}
-use Rattle.std.specs.Option.{option_map_or}
+use Rattle.std.proofs.Common.{◌≡◌, ◌<◌, ℕ, suc, ◌+◌, List, [], ◌∷◌, ◌++◌, map, length, refl, sym, ◌∙◌, ap, subst, arith, append_assoc, append-nil, length-append, ◌⊎◌, inl, inr, true, false, cond, Option, None, Some}
+use Rattle.std.specs.Prelude.{flat_map, unwrap_or, zip, nat_lt, is_some}
 use Rattle.std.specs.List.{enumerate_from}
 use Rattle.std.proofs.lemmas.Bool.{lt-ltb, le-ltb}
 use Rattle.std.proofs.lemmas.Grind.{flat_map-append}
 use Rattle.std.proofs.lemmas.List.{length-map}
 use Rattle.hk_base.specs.declared.plain.WireFault.{WireFault}
 use Rattle.hk_base.specs.declared.plain.End.{End}
-use Rattle.hk_base.specs.declared.plain.End.TheVariants as ends
 use Rattle.hk_spec_matching.specs.Catalogue.{Songs}
 use Rattle.hk_spec_sound.specs.Windows.{windows}
 use Rattle.hk_spec_streams.specs.Pieces.{completed, pieces_within}
@@ -19,8 +17,8 @@ use Rattle.hk_spec_streams.proofs.Completed.{completed-more}
 use Rattle.hk_spec_streams.proofs.GrowingBlocks.{enumerate-append, blocks-last, no_blocks}
 use Rattle.hk_spec_lines.specs.Lines.{printed_text}
 use Rattle.hk_spec_runs.specs.Desk.{Rules}
-use Rattle.hk_spec_runs.specs.Replay.{Listener, heard, report_in, lines_at}
-use Rattle.hk_spec_runs.specs.Listening.{Instant, IfLooked, unheard, blocks_gained, lines_gained, looks_gained, after_one, after, lines_over, versions_over, AreKnown, KeepsBlocks, Gives, GivesOne, songs_in, IsLogOf, WritesLog, TornLog}
+use Rattle.hk_spec_runs.specs.Replay.{Listener, report_in, lines_at}
+use Rattle.hk_spec_runs.specs.Listening.{Instant, IfLooked, unheard, blocks_gained, looks_gained, after_one, after, lines_over, versions_over, AreKnown, KeepsBlocks, songs_in, WritesLog, TornLog}
 use Rattle.hk_spec_runs.proofs.Listening.{next_over, next_fault, next_on}
 
 zip-append : {A B : Type 0} (xs : List A) (vs : List B) (ys : List A) (ws : List B) → length vs ≡ length xs → zip (xs ++ ys) (vs ++ ws) ≡ zip xs vs ++ zip ys ws
@@ -178,7 +176,7 @@ module _ (rules : Rules) where
 
   -- the law of a station's log
   pub writes_log : 0 < rules.setting.block_size → WritesLog rules
-  writes_log some station instants text answers past gives =
+  writes_log some station positions instants text answers steps past gives =
       let none : blocks rules.setting [] ≡ [] = no_blocks_before rules.setting some in
       let all : Logs station unheard instants past = logs station unheard instants past gives.known gives.blocks_stay in
       let are : blocks rules.setting (after rules unheard instants).used ≡ all.new = all.stay ∙ ap (λ bs. bs ++ all.new) none in
@@ -191,7 +189,7 @@ module _ (rules : Rules) where
 
   -- the next block's line stands behind the log
   pub next_line : TornLog rules
-  next_line station l vs past text i line first one known =
+  next_line station positions l vs past text i line steps first one known =
       let n : ℕ = length (blocks rules.setting l.used) in
       let numbered : List (ℕ × Block) = enumerate_from 0 (blocks rules.setting l.used) in
       let same : 0 + n ≡ n = omega arith in

@@ -19,7 +19,7 @@ abbrev pub EndsOtherwise : Listener → Type 0
 EndsOtherwise l = l.end ≡ Some ends.Ended → ⊥
 
 -- what each scene of a run keeps
-pub record Kept (rules : Rules) (scene : Scene) : Type 0 where
+pub record EndsTell (rules : Rules) (scene : Scene) : Type 0 where
   pub as_many : length scene.listeners ≡ rules.stations
   pub listeners : AllByRecursion EndsOtherwise scene.listeners
   pub clerk : scene.clerk.end ≡ Some op_ends.Ended → ⊥
@@ -57,7 +57,7 @@ module _ (rules : Rules) where
   heard_ends : (v : ℕ) (l : Listener) (byte : ℕ) → EndsOtherwise (heard rules v l byte)
   heard_ends v l byte = by_fault l (station_met rules.bytes (l.used ++ byte ∷ [])) _ _ v _
 
-  station_keeps : (scene : Scene) (station byte : ℕ) (o : Option Listener) → slice_get scene.listeners station ≡ o → Kept rules scene → Kept rules (for_station rules scene station byte o)
+  station_keeps : (scene : Scene) (station byte : ℕ) (o : Option Listener) → slice_get scene.listeners station ≡ o → EndsTell rules scene → EndsTell rules (for_station rules scene station byte o)
   station_keeps scene station byte None is kept = kept
   station_keeps scene station byte (Some l) is kept =
       let v : ℕ = length scene.desk.journal in
@@ -69,31 +69,31 @@ module _ (rules : Rules) where
         clerk = kept.clerk;
       }
 
-  obeyed_keeps : (refused : List ℕ) (scene : Scene) (c : ℕ × Command) → Kept rules scene → Kept rules (obeyed rules refused scene c)
+  obeyed_keeps : (refused : List ℕ) (scene : Scene) (c : ℕ × Command) → EndsTell rules scene → EndsTell rules (obeyed rules refused scene c)
   obeyed_keeps refused scene c kept = record { as_many = kept.as_many; listeners = kept.listeners; clerk = kept.clerk }
 
-  with_clerk : (scene : Scene) (clerk : Clerk) → Kept rules scene → (clerk.end ≡ Some op_ends.Ended → ⊥) → Kept rules (record scene { clerk = clerk })
+  with_clerk : (scene : Scene) (clerk : Clerk) → EndsTell rules scene → (clerk.end ≡ Some op_ends.Ended → ⊥) → EndsTell rules (record scene { clerk = clerk })
   with_clerk scene clerk kept other = record { as_many = kept.as_many; listeners = kept.listeners; clerk = other }
 
-  by_operator_fault : (scene now : Scene) (met : Option WireFault) → Kept rules scene → Kept rules now
-      → Kept rules (option_map_or (λ fault. record scene { clerk = record { used = scene.clerk.used; end = Some (op_ends.Wire fault) } }) met now)
+  by_operator_fault : (scene now : Scene) (met : Option WireFault) → EndsTell rules scene → EndsTell rules now
+      → EndsTell rules (option_map_or (λ fault. record scene { clerk = record { used = scene.clerk.used; end = Some (op_ends.Wire fault) } }) met now)
   by_operator_fault scene now None kept later = later
   by_operator_fault scene now (Some fault) kept later = with_clerk scene (record { used = scene.clerk.used; end = Some (op_ends.Wire fault) }) kept (λ is. cc)
 
-  operator_keeps : (refused : List ℕ) (scene : Scene) (byte : ℕ) → Kept rules scene → Kept rules (for_operator rules refused scene byte)
+  operator_keeps : (refused : List ℕ) (scene : Scene) (byte : ℕ) → EndsTell rules scene → EndsTell rules (for_operator rules refused scene byte)
   operator_keeps refused scene byte kept =
       let used : List ℕ = scene.clerk.used ++ byte ∷ [] in
       let begun : Scene = record scene { clerk = record { used = used; end = None } } in
-      one_or_other (Kept rules) (is_some scene.clerk.end) scene _ kept
+      one_or_other (EndsTell rules) (is_some scene.clerk.end) scene _ kept
       (by_operator_fault scene _ (operator_met rules.bytes used) kept
-      (fold_keeps (Kept rules) (obeyed rules refused) (obeyed_keeps refused) begun (enumerate_from (length (commands scene.clerk.used) + 1) (completed commands used))
+      (fold_keeps (EndsTell rules) (obeyed rules refused) (obeyed_keeps refused) begun (enumerate_from (length (commands scene.clerk.used) + 1) (completed commands used))
       (with_clerk scene (record { used = used; end = None }) kept (λ is. cc))))
 
-  arrived_keeps : (refused : List ℕ) (scene : Scene) (a : Arrival) → Kept rules scene → Kept rules (arrived rules refused scene a)
+  arrived_keeps : (refused : List ℕ) (scene : Scene) (a : Arrival) → EndsTell rules scene → EndsTell rules (arrived rules refused scene a)
   arrived_keeps refused scene (ForStation station byte) kept = station_keeps scene station byte (slice_get scene.listeners station) refl kept
   arrived_keeps refused scene (ForOperator byte) kept = operator_keeps refused scene byte kept
 
-  opening_kept : Kept rules (opening rules)
+  opening_kept : EndsTell rules (opening rules)
   opening_kept = record {
     as_many = length-replicate rules.stations (record { used = []; version = 0; end = None });
     listeners = all_alike EndsOtherwise rules.stations (record { used = []; version = 0; end = None }) (λ is. cc);
@@ -101,7 +101,7 @@ module _ (rules : Rules) where
   }
 
   -- so it is in each scene of a run
-  pub scene_kept : (input refused : List ℕ) → Kept rules (scene_of rules input refused)
+  pub scene_kept : (input refused : List ℕ) → EndsTell rules (scene_of rules input refused)
   unfolding scene_of
   scene_kept input refused =
-      fold_keeps (Kept rules) (arrived rules refused) (arrived_keeps refused) (opening rules) (arrivals (input_seen rules.stations rules.bytes input)) opening_kept
+      fold_keeps (EndsTell rules) (arrived rules refused) (arrived_keeps refused) (opening rules) (arrivals (input_seen rules.stations rules.bytes input)) opening_kept

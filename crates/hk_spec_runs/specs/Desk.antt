@@ -33,6 +33,10 @@ with_audio bytes song = record song { audio = song.audio ++ bytes }
 abbrev pub new_desk : Desk
 new_desk = record { journal = []; staged = []; song = None }
 
+-- What stands once the operator's stream is over: what was published. An open song and edits that are staged are dropped.
+abbrev pub at_end : Desk → Desk
+at_end desk = record desk { staged = []; song = None }
+
 module _ (rules : Rules) where
   -- the songs that a publish now would give: the last version with the staged edits
   abbrev pub present : Desk → Songs
@@ -69,8 +73,8 @@ module _ (rules : Rules) where
   IsReply desk command reply = (reply ≡ answer desk command)
       ⊎ ((reply ≡ Refused NoMemory) × (first_that_holds (refusals desk command) ≡ None))
 
-  abbrev pub song_of : List ℕ → Song
-  song_of words = record { words = words; limit = rules.errors }
+  abbrev pub added_song : List ℕ → Song
+  added_song words = record { words = words; limit = rules.errors }
 
   abbrev pub with_edit : Desk → Edit → Desk
   with_edit desk edit = record desk { staged = desk.staged ++ edit ∷ [] }
@@ -78,11 +82,11 @@ module _ (rules : Rules) where
   -- the song is staged and no song is open
   abbrev pub closed : Desk → Option Recording → Desk
   closed desk None = desk
-  closed desk (Some song) = record desk { staged = desk.staged ++ Add song.id (song_of (recorded_words song)) ∷ []; song = None }
+  closed desk (Some song) = record desk { staged = desk.staged ++ Add song.id (added_song (recorded_words song)) ∷ []; song = None }
 
   -- what stands after a command with this reply
   unfoldable pub after : Desk → Command → What → Desk
-  after desk (AddWords id words) Done = with_edit desk (Add id (song_of words))
+  after desk (AddWords id words) Done = with_edit desk (Add id (added_song words))
   after desk (OpenSong id form) Done = record desk { song = Some (record { id = id; form = form; audio = [] }) }
   after desk (Audio bytes) Done = record desk { song = option_map (with_audio bytes) desk.song }
   after desk (Audio bytes) (Refused NoMemory) = record desk { song = None }
@@ -106,4 +110,4 @@ module _ (rules : Rules) where
 
   -- what the operator's bytes publish with these replies
   abbrev pub journal_of : List ℕ → List What → Journal
-  journal_of bytes replies = (desk_after new_desk (commands (operator_seen rules.bytes bytes)) replies).journal
+  journal_of bytes replies = (at_end (desk_after new_desk (commands (operator_seen rules.bytes bytes)) replies)).journal

@@ -4,7 +4,7 @@ use Rattle.std.specs.List.{enumerate_from}
 use Rattle.hk_base.specs.declared.plain.Match.{Match}
 use Rattle.hk_spec_streams.specs.Blocks.{Block}
 use Rattle.hk_spec_matching.specs.Catalogue.{Edit, Journal, Limits, Songs, edited_by}
-use Rattle.hk_spec_matching.specs.Matching.{Query, matches}
+use Rattle.hk_spec_matching.specs.Matching.{Query, query_for, matches}
 
 -- what a line of a station's log says: the version and the list
 pub record Reported : Type 0 where
@@ -13,7 +13,7 @@ pub record Reported : Type 0 where
 
 -- what is looked up for a block
 abbrev pub query_of : Block → Query
-query_of block = record { prints = block.prints }
+query_of block = query_for block.prints
 
 -- a look: the station, the block's number, the block, and what was reported
 pub record Look : Type 0 where

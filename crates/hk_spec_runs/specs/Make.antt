@@ -31,8 +31,8 @@ song_length i = 1000 + 100 * i
 abbrev pub words_before : ℕ → ℕ
 words_before i = sum_by song_length (range_with_len 0 i)
 
-abbrev pub song_of : List ℕ → ℕ → List ℕ
-song_of highs i = take (song_length i) (drop (words_before i) (drawn_words highs))
+abbrev pub drawn_song : List ℕ → ℕ → List ℕ
+drawn_song highs i = take (song_length i) (drop (words_before i) (drawn_words highs))
 
 abbrev pub operator_record : List ℕ → List ℕ
 operator_record bytes = OPERATOR ∷ to_be_bytes w16 (length bytes) ++ bytes
@@ -44,7 +44,7 @@ abbrev pub command_bytes : Row → List ℕ → List ℕ
 command_bytes row payload = row.number ∷ to_be_bytes w32 (length payload) ++ payload
 
 abbrev pub add_bytes : List ℕ → ℕ → List ℕ
-add_bytes highs i = command_bytes ADD_WORDS (to_be_bytes w32 (100 + i) ++ flat_map (to_be_bytes w32) (song_of highs i))
+add_bytes highs i = command_bytes ADD_WORDS (to_be_bytes w32 (100 + i) ++ flat_map (to_be_bytes w32) (drawn_song highs i))
 
 abbrev pub withdraw_bytes : ℕ → List ℕ
 withdraw_bytes i = command_bytes WITHDRAW (to_be_bytes w32 (100 + i))
@@ -65,7 +65,7 @@ print_bytes print = to_be_bytes w32 print.word ++ to_be_bytes w32 print.mask
 -- 600 prints of song (s + r) mod 8 from place 40 * r, with the draws of round r and station s of n
 abbrev pub played_bytes : ℕ → List ℕ → ℕ → ℕ → ℕ → List ℕ
 played_bytes flips highs n r s =
-    let song = song_of highs ((s + r) % 8) in
+    let song = drawn_song highs ((s + r) % 8) in
     let draws = drop (2 * words_before 8 + (r * n + s) * 600) highs in
     flat_map (λ i. print_bytes (played flips (slice_index song (40 * r + i)) (slice_index draws i % 32))) (range_with_len 0 600)
 

@@ -18,7 +18,7 @@ use Rattle.hk_spec_matching.specs.Catalogue.{Songs, Journal, version}
 use Rattle.hk_spec_matching.specs.Matching.{matches}
 use Rattle.hk_spec_runs.specs.History.{query_of}
 use Rattle.hk_spec_lines.specs.Lines.{Printed, Report, Replied, printed_text, station_line, operator_line}
-use Rattle.hk_spec_runs.specs.Desk.{Desk, new_desk, refusals, answer, after}
+use Rattle.hk_spec_runs.specs.Desk.{Desk, new_desk, at_end, refusals, answer, after}
 use Rattle.hk_spec_settings.specs.Settings.{Rules}
 
 -- a station so far: the bytes that it used, the version of its last look, and its end once it is over
@@ -137,7 +137,7 @@ module _ (rules : Rules) where
   abbrev pub summary : Scene → List ℕ
   summary scene =
       flat_map (λ p. station_line p.0 (length (blocks rules.setting p.1.used)) p.1.version (end_of p.1)) (enumerate_from 0 scene.listeners)
-      ++ operator_line (length (commands scene.clerk.used)) (length scene.desk.journal) (operator_end_of scene.clerk)
+      ++ operator_line (length (commands scene.clerk.used)) (length (at_end scene.desk).journal) (operator_end_of scene.clerk)
 
   -- all that a replay prints where its input has no fault
   unfoldable pub replay : List ℕ → List ℕ → List ℕ

@@ -4,7 +4,7 @@ ghost use Rattle.hk_base.specs.declared.plain.Reason.TheVariants as reasons;
 ghost use Rattle.hk_base.specs.declared.plain.What.TheVariants as whats;
 ghost use Rattle.hk_base.specs.declared.plain.End.TheVariants as ends;
 ghost use Rattle.hk_base.specs.declared.plain.WireFault.TheVariants as faults;
-ghost use Rattle.hk_spec_runs.specs.Desk.{answer, after, new_desk};
+ghost use Rattle.hk_spec_runs.specs.Desk.{answer, after, new_desk, at_end};
 ghost use Rattle.hk_spec_runs.specs.History.{history, IsLegal, Published, Looked};
 ghost use Rattle.hk_spec_streams.specs.Operator.{OpenSong, Audio, Close, Publish};
 ghost use Rattle.hk_spec_runs.specs.Replay.{replay, out};
@@ -39,6 +39,13 @@ pub fn no_memory_examples()
     ensures audio { after SMALL SONG_3_OPEN (Audio (0 ∷ 0 ∷ [])) (whats.Refused reasons.NoMemory) ≡ new_desk }
     ensures close { after SMALL SONG_3_OPEN Close (whats.Refused reasons.NoMemory) ≡ new_desk }
     ensures publish { after SMALL SONG_3_STAGED Publish (whats.Refused reasons.NoMemory) ≡ SONG_3_STAGED }
+{}
+
+/// An open song, and an edit that no publish followed, are dropped where the operator's stream ends.
+#[tactic(auto, unfolding(crate::specs::Desk::after))]
+pub fn dropped_examples()
+    ensures song { at_end SONG_3_OPEN ≡ new_desk }
+    ensures edit { at_end SONG_3_STAGED ≡ new_desk }
 {}
 
 /// A whole replay from bytes to text: a song is published, and the station's one block is found in it.

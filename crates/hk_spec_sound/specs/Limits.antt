@@ -1,10 +1,13 @@
 -- The numbers that may be set, each with the values that it may have.
-use Rattle.std.specs.Prelude.{ℕ, ◌^◌, Bool, ◌&&◌, nat_le, max, List, [], ◌∷◌}
+use Rattle.std.specs.Prelude.{ℕ, ◌≤◌, ◌^◌, Bool, ◌&&◌, nat_le, max, List, [], ◌∷◌}
 
 -- from one number to another, both among them
 pub record Range : Type 0 where
   pub least : ℕ
   pub most : ℕ
+
+abbrev pub IsInRange : Range → ℕ → Type 0
+IsInRange range n = (range.least ≤ n) × (n ≤ range.most)
 
 abbrev pub is_within : Range → ℕ → Bool
 is_within range n = nat_le range.least n && nat_le n range.most

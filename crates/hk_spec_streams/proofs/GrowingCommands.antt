@@ -9,8 +9,8 @@ use Rattle.std.proofs.lemmas.Bool.{or_parts, cases_lt}
 use Rattle.hk_spec_streams.specs.Pieces.{Piece, pieces, is_whole, last_bytes}
 use Rattle.hk_spec_streams.specs.Grammar.{packets, packet_size, ends_at_start, kind_of, payload_of}
 use Rattle.hk_spec_streams.specs.Operator.{Command, operator_grammar, commands, command_for}
-use Rattle.hk_spec_streams.proofs.GrowingPieces.{no_pieces}
-use Rattle.hk_spec_streams.proofs.GrowingPackets.{Next, Begins, Goes, next_behind, over, all_whole, last_bytes-append, last_bytes-next}
+use Rattle.hk_spec_streams.proofs.GrowingPieces.{no_pieces, last_bytes-append}
+use Rattle.hk_spec_streams.proofs.GrowingPackets.{Next, Begins, Goes, next_behind, over, all_whole, last_bytes-next}
 use Rattle.hk_spec_streams.proofs.PacketSize.{packet_size_32}
 
 -- how long a command is, by its first five bytes

@@ -4,58 +4,24 @@ use Rattle.std.specs.Prelude.{◌==◌, nat_le, flat_map}
 use Rattle.std.specs.Int.{w16, from_be_bytes}
 use Rattle.std.specs.Option.{option_map_or}
 use Rattle.std.specs.List.{last_or}
-use Rattle.std.proofs.lemmas.List.{map-append, drop-append-le, drop_all}
+use Rattle.std.proofs.lemmas.List.{map-append, drop-append-le, drop_all, drop-take}
 use Rattle.std.proofs.lemmas.Bool.Decides.{leb_tells}
 use Rattle.hk_spec_streams.specs.Pieces.{Piece, is_whole, last_bytes}
 use Rattle.hk_spec_streams.specs.Records.{STATION, Arrival, arrival_in, arrival_after, arrivals_of, arrivals, records, record_size, head_size, open_bytes, open_record}
 use Rattle.hk_spec_streams.proofs.GrowingPieces.{IsSize}
+use Rattle.hk_spec_streams.proofs.PacketSize.{by_head, is_size, same_size}
 use Rattle.hk_spec_streams.proofs.OpenPiece.{Cut, cut, opened, opened_piece, open_piece_after, open_bytes_of, open_before, open_next, last_next, grows}
 
 -- how long a record is, by whether it is a station's
 size_by : Bool → List ℕ → ℕ
 size_by t bytes = cond t 4 3 + from_be_bytes w16 (take 2 (drop (cond t 4 3 - 2) bytes))
 
-settled_by : (t : Bool) (xs ys : List ℕ) → size_by t xs ≤ length xs → size_by t (xs ++ ys) ≡ size_by t xs
+by_letter : (t : Bool) → IsSize (size_by t)
 unfolding size_by
-settled_by true [] ys h = absurd (omega arith)
-settled_by true (a ∷ []) ys h = absurd (omega arith)
-settled_by true (a ∷ b ∷ []) ys h = absurd (omega arith)
-settled_by true (a ∷ b ∷ c ∷ []) ys h = absurd (omega arith)
-settled_by true (a ∷ b ∷ c ∷ d ∷ xs) ys h = refl
-settled_by false [] ys h = absurd (omega arith)
-settled_by false (a ∷ []) ys h = absurd (omega arith)
-settled_by false (a ∷ b ∷ []) ys h = absurd (omega arith)
-settled_by false (a ∷ b ∷ c ∷ xs) ys h = refl
-
-whole_by : (t : Bool) (xs : List ℕ) → size_by t xs ≤ length xs → size_by t (take (size_by t xs) xs) ≡ size_by t xs
-unfolding size_by
-whole_by true [] h = absurd (omega arith)
-whole_by true (a ∷ []) h = absurd (omega arith)
-whole_by true (a ∷ b ∷ []) h = absurd (omega arith)
-whole_by true (a ∷ b ∷ c ∷ []) h = absurd (omega arith)
-whole_by true (a ∷ b ∷ c ∷ d ∷ xs) h =
-    let more : ℕ = from_be_bytes w16 (c ∷ d ∷ []) in
-    let size : size_by true (a ∷ b ∷ c ∷ d ∷ xs) ≡ suc (suc (suc (suc more))) = omega arith in
-    ap (λ n. size_by true (take n (a ∷ b ∷ c ∷ d ∷ xs))) size
-whole_by false [] h = absurd (omega arith)
-whole_by false (a ∷ []) h = absurd (omega arith)
-whole_by false (a ∷ b ∷ []) h = absurd (omega arith)
-whole_by false (a ∷ b ∷ c ∷ xs) h =
-    let more : ℕ = from_be_bytes w16 (b ∷ c ∷ []) in
-    let size : size_by false (a ∷ b ∷ c ∷ xs) ≡ suc (suc (suc more)) = omega arith in
-    ap (λ n. size_by false (take n (a ∷ b ∷ c ∷ xs))) size
-
-taking_by : (t : Bool) (xs : List ℕ) (y : ℕ) → length xs < size_by t xs → length xs < size_by t (xs ++ y ∷ [])
-unfolding size_by
-taking_by true [] y h = omega arith
-taking_by true (a ∷ []) y h = omega arith
-taking_by true (a ∷ b ∷ []) y h = omega arith
-taking_by true (a ∷ b ∷ c ∷ []) y h = omega arith
-taking_by true (a ∷ b ∷ c ∷ d ∷ xs) y h = h
-taking_by false [] y h = omega arith
-taking_by false (a ∷ []) y h = omega arith
-taking_by false (a ∷ b ∷ []) y h = omega arith
-taking_by false (a ∷ b ∷ c ∷ xs) y h = h
+by_letter true = same_size (by_head 4 (λ head. from_be_bytes w16 (drop 2 head)) (omega arith)) (size_by true) (is_size 4 (λ head. from_be_bytes w16 (drop 2 head)) (omega arith))
+    (λ bytes. ap (λ length_bytes. 4 + from_be_bytes w16 length_bytes) (sym (drop-take 2 2 bytes)))
+by_letter false = same_size (by_head 3 (λ head. from_be_bytes w16 (drop 1 head)) (omega arith)) (size_by false) (is_size 3 (λ head. from_be_bytes w16 (drop 1 head)) (omega arith))
+    (λ bytes. ap (λ length_bytes. 3 + from_be_bytes w16 length_bytes) (sym (drop-take 1 2 bytes)))
 
 at_least : (t : Bool) (xs : List ℕ) → 0 < size_by t xs
 unfolding size_by
@@ -65,7 +31,7 @@ at_least false xs = omega arith
 settled : (xs ys : List ℕ) → record_size xs ≤ length xs → record_size (xs ++ ys) ≡ record_size xs
 unfolding size_by
 settled [] ys h = absurd (let none : 3 ≤ 0 = omega arith in omega (arith, none))
-settled (a ∷ xs) ys h = settled_by (a == STATION) (a ∷ xs) ys h
+settled (a ∷ xs) ys h = (by_letter (a == STATION)).settled (a ∷ xs) ys h
 
 whole : (xs : List ℕ) → record_size xs ≤ length xs → record_size (take (record_size xs) xs) ≡ record_size xs
 unfolding size_by
@@ -75,12 +41,12 @@ whole (a ∷ xs) h =
     let some : 0 < size_by (a == STATION) (a ∷ xs) = at_least (a == STATION) (a ∷ xs) in
     let shape : suc (n - 1) ≡ n = omega (arith, some) in
     let P : ℕ → Type 0 = λ m. record_size (take m (a ∷ xs)) ≡ size_by (a == STATION) (take m (a ∷ xs)) in
-    subst P shape refl ∙ whole_by (a == STATION) (a ∷ xs) h
+    subst P shape refl ∙ (by_letter (a == STATION)).whole (a ∷ xs) h
 
 taking : (xs : List ℕ) (y : ℕ) → length xs < record_size xs → length xs < record_size (xs ++ y ∷ [])
 unfolding size_by
 taking [] y h = at_least (y == STATION) (y ∷ [])
-taking (a ∷ xs) y h = taking_by (a == STATION) (a ∷ xs) y h
+taking (a ∷ xs) y h = (by_letter (a == STATION)).taking (a ∷ xs) y h
 
 pub record_size_is_size : IsSize record_size
 unfolding size_by

@@ -5,6 +5,7 @@ use Rattle.std.proofs.Math.Seq.{take-append_seam}
 use Rattle.std.specs.Option.{option_or, option_map_or}
 use Rattle.hk_spec_streams.specs.Pieces.{first_met, fault_of, seen_of}
 use Rattle.hk_spec_streams.proofs.FirstFault.{first_met-append}
+pub use Rattle.hk_spec_streams.proofs.FirstFault.{fault_of-none}
 
 along : (P : List ℕ → Type 0) → ((text : List ℕ) (byte : ℕ) → P text → P (text ++ byte ∷ [])) → (front back : List ℕ) → P front → P (front ++ back)
 along P step front [] here = subst P (sym (append-nil front)) here
@@ -49,13 +50,6 @@ module _ {F : Type 0} (met : List ℕ → Option F) where
   -- where there is no fault, all bytes are seen
   pub seen_of-all : (text : List ℕ) → fault_of met text ≡ None → seen_of met text ≡ text
   seen_of-all text none = ap (λ o. option_map_or (λ m. take m.0 text) o text) (no_fault (first_met met text) none)
-
-  -- no fault yet, and the byte meets none
-  pub fault_of-none : (text : List ℕ) (byte : ℕ) → fault_of met text ≡ None → met (text ++ byte ∷ []) ≡ None → fault_of met (text ++ byte ∷ []) ≡ None
-  fault_of-none text byte none fine =
-      ap (option_map (λ m. m.1)) (first_met-append met text byte
-      ∙ ap (λ o. option_or o (option_map (λ fault. (length text, fault)) (met (text ++ byte ∷ [])))) (no_fault (first_met met text) none)
-      ∙ ap (option_map (λ fault. (length text, fault))) fine)
 
   both_none : (o : Option (ℕ × F)) (place : ℕ) (fault : Option F) → option_or o (option_map (λ f. (place, f)) fault) ≡ None → (o ≡ None) × (fault ≡ None)
   both_none (Some m) place fault is = absurd (cc)

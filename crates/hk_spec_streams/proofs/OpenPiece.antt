@@ -5,10 +5,10 @@ use Rattle.std.specs.Option.{option_map_or}
 use Rattle.std.specs.List.{list_all, last_or}
 use Rattle.std.proofs.lemmas.List.{length-drop, length-take-le}
 use Rattle.std.proofs.lemmas.List.Concat.{flat_map-append}
-use Rattle.std.proofs.lemmas.Bool.{eq-eqb, and_parts}
+use Rattle.std.proofs.lemmas.Bool.{eq-eqb}
 use Rattle.std.proofs.lemmas.Bool.Decides.{leb_tells, eqb_tells}
 use Rattle.hk_spec_streams.specs.Pieces.{Piece, pieces_within, is_whole, last_bytes}
-use Rattle.hk_spec_streams.proofs.GrowingPieces.{IsSize, no_pieces, one_piece, first_stays}
+use Rattle.hk_spec_streams.proofs.GrowingPieces.{IsSize, no_pieces, one_piece, first_stays, last_or-append, last_bytes-append, last_whole}
 
 -- the open piece, where some of its bytes are there
 abbrev pub opened : ℕ → List ℕ → List Piece
@@ -83,33 +83,19 @@ cut size s (suc t) (suc u) place b (x ∷ xs) h k =
           }
     ]
 
-last_of_more : {A : Type 0} (o : Option A) (xs : List A) (x : A) → last_or o (xs ++ x ∷ []) ≡ Some x
-last_of_more o [] x = refl
-last_of_more o (y ∷ xs) x = last_of_more (Some y) xs x
-
-pub last_bytes-more : (ps : List Piece) (p : Piece) → last_bytes (ps ++ p ∷ []) ≡ p.bytes
-last_bytes-more ps p = ap (λ o. option_map_or (λ piece. piece.bytes) o []) (last_of_more None ps p)
-
 -- the bytes of the last piece, where it isn't whole
 unfoldable pub open_bytes_of : (List ℕ → ℕ) → List Piece → List ℕ
 open_bytes_of size ps = option_map_or (λ p. cond (is_whole size p) [] p.bytes) (last_or None ps) []
 
-all_whole : (size : List ℕ → ℕ) (o : Option Piece) (ps : List Piece) → option_map_or (λ p. cond (is_whole size p) [] p.bytes) o [] ≡ []
-    → list_all (is_whole size) ps ≡ true → option_map_or (λ p. cond (is_whole size p) [] p.bytes) (last_or o ps) [] ≡ []
-all_whole size o [] is whole = is
-all_whole size o (p ∷ ps) is whole =
-    let parts = and_parts (is_whole size p) (list_all (is_whole size) ps) whole in
-    all_whole size (Some p) ps (ap (λ w. cond w [] p.bytes) parts.0) parts.1
-
-isnt_whole : (size : List ℕ → ℕ) (xs : List ℕ) → length xs < size xs → (size xs == length xs) ≡ false
+pub isnt_whole : (size : List ℕ → ℕ) (xs : List ℕ) → length xs < size xs → (size xs == length xs) ≡ false
 isnt_whole size xs short = elim (eqb_tells (size xs) (length xs)) [ inl same ↦ absurd (omega (arith, same.1)) | inr other ↦ other.0 ]
 
 open_after : (size : List ℕ → ℕ) (front : List Piece) (at : ℕ) (rest : List ℕ) → list_all (is_whole size) front ≡ true → ((rest ≡ [] → ⊥) → length rest < size rest)
     → open_bytes_of size (front ++ opened at rest) ≡ rest
 unfolding open_bytes_of
-open_after size front at [] whole short = ap (λ ps. option_map_or (λ p. cond (is_whole size p) [] p.bytes) (last_or None ps) []) (append-nil front) ∙ all_whole size None front refl whole
+open_after size front at [] whole short = ap (λ ps. option_map_or (λ p. cond (is_whole size p) [] p.bytes) (last_or None ps) []) (append-nil front) ∙ last_whole size (λ o. option_map_or (λ p. cond (is_whole size p) [] p.bytes) o [] ≡ []) (λ p is. ap (λ w. cond w [] p.bytes) is) None front refl whole
 open_after size front at (x ∷ xs) whole short =
-    ap (λ o. option_map_or (λ p. cond (is_whole size p) [] p.bytes) o []) (last_of_more None front (record { place = at; bytes = x ∷ xs }))
+    ap (λ o. option_map_or (λ p. cond (is_whole size p) [] p.bytes) o []) (last_or-append None front (record { place = at; bytes = x ∷ xs }))
     ∙ ap (λ w. cond w [] (x ∷ xs)) (isnt_whole size (x ∷ xs) (short (λ e. cc)))
 
 -- the open piece, if any
@@ -120,23 +106,12 @@ opened_piece place (x ∷ xs) = Some (record { place = place; bytes = x ∷ xs }
 unless_whole : (List ℕ → ℕ) → Option Piece → Option Piece
 unless_whole size o = option_map_or (λ p. cond (is_whole size p) None (Some p)) o None
 
-whole_is_none : (size : List ℕ → ℕ) (p : Piece) → is_whole size p ≡ true → unless_whole size (Some p) ≡ None
-unfolding unless_whole
-whole_is_none size p e = ap (λ w. cond w None (Some p)) e
-
-none_open : (size : List ℕ → ℕ) (o : Option Piece) (ps : List Piece) → unless_whole size o ≡ None
-    → list_all (is_whole size) ps ≡ true → unless_whole size (last_or o ps) ≡ None
-none_open size o [] is whole = is
-none_open size o (p ∷ ps) is whole =
-    let parts = and_parts (is_whole size p) (list_all (is_whole size) ps) whole in
-    none_open size (Some p) ps (whole_is_none size p parts.0) parts.1
-
 pub open_piece_after : (size : List ℕ → ℕ) (front : List Piece) (at : ℕ) (rest : List ℕ) → list_all (is_whole size) front ≡ true → ((rest ≡ [] → ⊥) → length rest < size rest)
     → option_map_or (λ p. cond (is_whole size p) None (Some p)) (last_or None (front ++ opened at rest)) None ≡ opened_piece at rest
 unfolding unless_whole
-open_piece_after size front at [] whole short = ap (λ ps. unless_whole size (last_or None ps)) (append-nil front) ∙ none_open size None front refl whole
+open_piece_after size front at [] whole short = ap (λ ps. unless_whole size (last_or None ps)) (append-nil front) ∙ last_whole size (λ o. unless_whole size o ≡ None) (λ p is. ap (λ w. cond w None (Some p)) is) None front refl whole
 open_piece_after size front at (x ∷ xs) whole short =
-    ap (λ o. unless_whole size o) (last_of_more None front (record { place = at; bytes = x ∷ xs }))
+    ap (λ o. unless_whole size o) (last_or-append None front (record { place = at; bytes = x ∷ xs }))
     ∙ ap (λ w. cond w None (Some (record { place = at; bytes = x ∷ xs }))) (isnt_whole size (x ∷ xs) (short (λ e. cc)))
 
 module _ (size : List ℕ → ℕ) (place : ℕ) (xs : List ℕ) (b : ℕ) (now next : List Piece) (c : Cut size place xs b now next) where
@@ -148,11 +123,11 @@ module _ (size : List ℕ → ℕ) (place : ℕ) (xs : List ℕ) (b : ℕ) (now 
   pub open_next : open_bytes_of size next ≡ cond (size (c.rest ++ b ∷ []) == length (c.rest ++ b ∷ [])) [] (c.rest ++ b ∷ [])
   unfolding open_bytes_of
   open_next = ap (λ ps. option_map_or (λ p. cond (is_whole size p) [] p.bytes) (last_or None ps) []) c.next_is
-      ∙ ap (λ o. option_map_or (λ p. cond (is_whole size p) [] p.bytes) o []) (last_of_more None c.front (record { place = c.at; bytes = c.rest ++ b ∷ [] }))
+      ∙ ap (λ o. option_map_or (λ p. cond (is_whole size p) [] p.bytes) o []) (last_or-append None c.front (record { place = c.at; bytes = c.rest ++ b ∷ [] }))
 
   -- the byte stands at the end of the last piece
   pub last_next : last_bytes next ≡ c.rest ++ b ∷ []
-  last_next = ap last_bytes c.next_is ∙ last_bytes-more c.front (record { place = c.at; bytes = c.rest ++ b ∷ [] })
+  last_next = ap last_bytes c.next_is ∙ last_bytes-append c.front (record { place = c.at; bytes = c.rest ++ b ∷ [] })
 
   -- what is made of each piece grows by what the byte adds to the open one
   pub grows : {A : Type 0} (f : Piece → List A) (more : List A) → f (record { place = c.at; bytes = c.rest ++ b ∷ [] }) ≡ flat_map f (opened c.at c.rest) ++ more

@@ -13,10 +13,10 @@ use Rattle.hk_spec_matching.proofs.Rising.{Rise-le, Rise-split}
 use Rattle.hk_spec_streams.specs.Pieces.{completed, first_met, pieces_within}
 use Rattle.hk_spec_streams.specs.Grammar.{packets}
 use Rattle.hk_spec_streams.specs.Station.{FENCE, Fence, fences, station_met, station_fault, station_seen, station_used, station_wrong}
-use Rattle.hk_spec_streams.specs.LastPacket.{last_packet}
+use Rattle.hk_station_wire.specs.LastPacket.{last_packet}
 use Rattle.hk_spec_streams.specs.Blocks.{blocks}
 use Rattle.hk_spec_streams.proofs.NextFault.{seen_of-all, fault_of-none, fault_of-some, fault_of-stays}
-use Rattle.hk_spec_streams.proofs.GrowingFences.{fence_in, fences-append, fences_completed}
+use Rattle.hk_station_wire.proofs.GrowingFences.{fence_in, fences-append, fences_completed}
 use Rattle.hk_station_wire.proofs.WellFormed.{fits, no_open_fence}
 use Rattle.hk_spec_runs.specs.Desk.{Rules}
 use Rattle.hk_spec_runs.specs.Replay.{Listener}

@@ -1,5 +1,5 @@
 -- What a station does with the bytes that it is given, with the view that it looks through, and with its log.
-use Rattle.std.specs.Prelude.{◌≡◌, ℕ, List, [], ◌∷◌}
+use Rattle.std.specs.Prelude.{◌≡◌, ◌≤◌, ℕ, ◌+◌, List, [], ◌∷◌}
 use Rattle.hk_base.specs.Writing.{HasWritten, HasFailed}
 use Rattle.hk_base.specs.declared.sink.Sink as sinks
 use Rattle.hk_spec_runs.specs.Listening.{Instant, after, Gives, GivesOne}
@@ -13,33 +13,38 @@ abbrev pub instant : LookerView → ℕ → Instant
 instant view byte = record { byte = byte; version = view.at; songs = view.songs }
 
 module _ {V K : Type 0} (looker : lookers.Ghosts V) (sink : sinks.Ghosts K) where
-  -- A station has heard these instants: the lines of their blocks were written, and their looks were made. Without a look the
-  -- view stays.
-  pub record HasHeard (instants : List Instant) (old new : Station) (view view' : V) (log log' : K) : Type 0 where
+  -- A station has heard these instants: the lines of their blocks were written, and their looks were made, within their steps.
+  -- Without a look the view stays.
+  pub record HasHeard (instants : List Instant) (old new : Station) (view view' : V) (log log' : K) (ticks ticks' : ℕ) : Type 0 where
     pub text : List ℕ
     pub answers : List ℕ
+    pub steps : ℕ
     pub writes : HasWritten sink text log log'
     pub looks : Looks answers (looker.looker view) (looker.looker view')
     pub idle : answers ≡ [] → view' ≡ view
+    pub bound : ticks' ≤ ticks + steps
     pub number : number_of new ≡ number_of old
     pub hears : ForEach old (λ rules l. IsHearing rules new (after rules l instants)
-        × Gives rules (number_of old) l instants text answers (looker.looker view').past)
+        × Gives rules (number_of old) (looker.looker view).room l instants text answers steps (looker.looker view').past)
 
   -- At this instant the write of a block's line failed. The line isn't counted, but its look was made.
-  pub record IsTorn (i : Instant) (old new : Station) (view view' : V) (log log' : K) : Type 0 where
+  pub record IsTorn (i : Instant) (old new : Station) (view view' : V) (log log' : K) (ticks ticks' : ℕ) : Type 0 where
     pub line : List ℕ
+    pub steps : ℕ
     pub fails : HasFailed sink line log log'
     pub looks : Looks (i.version ∷ []) (looker.looker view) (looker.looker view')
     pub at : i ≡ instant (looker.looker view') i.byte
+    pub bound : ticks' ≤ ticks + steps
     pub number : number_of new ≡ number_of old
     pub lines : lines_of new ≡ lines_of old
     pub version_is : version_of new ≡ i.version
-    pub hears : ForEach old (λ rules l. GivesOne rules (number_of old) l i line)
+    pub hears : ForEach old (λ rules l. GivesOne rules (number_of old) (looker.looker view).room l i line steps)
 
   -- These instants were heard, and at the next one a write failed.
-  pub record WasTorn (instants : List Instant) (torn : Instant) (old new : Station) (view view' : V) (log log' : K) : Type 0 where
+  pub record WasTorn (instants : List Instant) (torn : Instant) (old new : Station) (view view' : V) (log log' : K) (ticks ticks' : ℕ) : Type 0 where
     pub station : Station
     pub seen : V
     pub whole : K
-    pub heard : HasHeard instants old station view seen log whole
-    pub tears : IsTorn torn station new seen view' whole log'
+    pub made : ℕ
+    pub heard : HasHeard instants old station view seen log whole ticks made
+    pub tears : IsTorn torn station new seen view' whole log' made ticks'

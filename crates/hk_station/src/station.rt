@@ -9,7 +9,7 @@ ghost use Rattle.hk_spec_runs.specs.Desk.{Rules};
 ghost use Rattle.hk_spec_runs.specs.Replay.{end_of};
 ghost use Rattle.hk_spec_runs.specs.Listening.{Instant, bytes_in, unheard};
 ghost use Rattle.hk_block.specs.Ring.{is_full};
-ghost use Rattle.hk_block.specs.Looker.{Looks, matches_in};
+ghost use Rattle.hk_block.specs.Looker.{Looks, matches_in, most_steps};
 ghost use Rattle.hk_receiver.specs.Kept.{MOST_BYTES, IsSetTo};
 ghost use Rattle.hk_receiver.specs.Received.{blocks_of, ring_of};
 
@@ -85,9 +85,9 @@ impl Station {
     ) -> Progress
         requires room { (V.looker view.old).room ≤ scratch.old.room }
         ensures heard { UnlessTorn result (HasHeard V.Looker K.Sink (instant (V.looker view.new) byte ∷ [])
-            self.old self.new view.old view.new log.old log.new) }
+            self.old self.new view.old view.new log.old log.new steps.old steps.new) }
         ensures torn { kept_end self.old ≡ None → OnTorn result (IsTorn V.Looker K.Sink (instant (V.looker view.new) byte)
-            self.old self.new view.old view.new log.old log.new) }
+            self.old self.new view.old view.new log.old log.new steps.old steps.new) }
         ensures tells { result ≡ progress_of (kept_end self.new) }
         ensures over { (end : End) → kept_end self.old ≡ Some end → (self.new ≡ self.old) × (view.new ≡ view.old) × (log.new ≡ log.old) }
         ensures number_stays { number_of self.new ≡ number_of self.old }
@@ -117,10 +117,10 @@ impl Station {
     ) -> Progress
         requires room { (V.looker view.old).room ≤ scratch.old.room }
         ensures heard { UnlessTorn result ((instants : List Instant) × (bytes_in instants ≡ piece.now)
-            × HasHeard V.Looker K.Sink instants self.old self.new view.old view.new log.old log.new) }
+            × HasHeard V.Looker K.Sink instants self.old self.new view.old view.new log.old log.new steps.old steps.new) }
         ensures torn { kept_end self.old ≡ None → OnTorn result ((instants : List Instant) × (torn : Instant) × (left : List ℕ)
             × (bytes_in instants ++ torn.byte ∷ left ≡ piece.now)
-            × WasTorn V.Looker K.Sink instants torn self.old self.new view.old view.new log.old log.new) }
+            × WasTorn V.Looker K.Sink instants torn self.old self.new view.old view.new log.old log.new steps.old steps.new) }
         ensures tells { result ≡ progress_of (kept_end self.new) }
         ensures over { (end : End) → kept_end self.old ≡ Some end → (self.new ≡ self.old) × (view.new ≡ view.old) × (log.new ≡ log.old) }
         ensures number_stays { number_of self.new ≡ number_of self.old }
@@ -184,6 +184,7 @@ impl Station {
         ensures counts { UnlessTorn result (Becomes self.old self.new (self.old.lines + 1) (V.looker view.new).at None) }
         ensures torn { OnTorn result (Becomes self.old self.new self.old.lines (V.looker view.new).at (Some ends.SinkFault)) }
         ensures looks { Looks ((V.looker view.new).at ∷ []) (V.looker view.old) (V.looker view.new) }
+        ensures bound { steps.new ≤ steps.old + most_steps (ring_of self.old.receiver) (V.looker view.new) }
         ensures scratch_room { scratch.new.room ≡ scratch.old.room }
     {
         let version = view.look(self.receiver.ring(), scratch, steps);

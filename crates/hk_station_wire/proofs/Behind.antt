@@ -1,7 +1,7 @@
 -- What a byte behind the hello brings, for each part of a packet.
 use Rattle.std.proofs.Common.{◌≡◌, ℕ, ◌+◌, ◌<◌, ◌≤◌, List, [], ◌∷◌, ◌++◌, length, take, drop, subst, refl, sym, ◌∙◌, ap, arith, length-append, Bool, true, false, inl, inr, None, Some, cond, slice_index}
 use Rattle.std.proofs.lemmas.List.{take_all}
-use Rattle.std.proofs.lemmas.Bool.{lt-ltb, le-ltb}
+use Rattle.std.proofs.lemmas.Bool.{lt-ltb, le-ltb, cases_Bool}
 use Rattle.std.specs.Prelude.{◌&&◌, ◌||◌, nat_lt, count_ones, Ok, Err, Result, if◌then◌else◌}
 use Rattle.std.specs.Option.{option_or}
 use Rattle.std.specs.Int.{w32, from_be_bytes}
@@ -12,11 +12,10 @@ use Rattle.hk_base.specs.declared.plain.WireFault.TheVariants.{BadMask}
 use Rattle.hk_spec_sound.specs.Groups.{rest_of}
 use Rattle.hk_spec_sound.proofs.GrowingGroups.{rest_is_short}
 use Rattle.hk_spec_streams.specs.Pieces.{completed}
-use Rattle.hk_spec_streams.proofs.GrowingPackets.{known}
 use Rattle.hk_spec_streams.specs.Station.{station_met, sent_print, has_bad_mask, channels_of}
-use Rattle.hk_spec_streams.specs.LastPacket.{last_packet, last_segment, all_sent_prints, begins_gap, ends_with_data}
-use Rattle.hk_spec_streams.proofs.GrowingSegments.{last_packet-next}
-use Rattle.hk_spec_streams.proofs.GrowingPrints.{next_prints, NoPrint, NoData, PartOfPrint, WholePrint}
+use Rattle.hk_station_wire.specs.LastPacket.{last_packet, last_segment, all_sent_prints, begins_gap, ends_with_data}
+use Rattle.hk_station_wire.proofs.GrowingSegments.{last_packet-next}
+use Rattle.hk_station_wire.proofs.GrowingPrints.{next_prints, NoPrint, NoData, PartOfPrint, WholePrint}
 use Rattle.hk_spec_streams.proofs.Completed.{completed-more}
 use Rattle.hk_station_wire.specs.declared.item.Item.{Item}
 use Rattle.hk_station_wire.specs.declared.item.Item.TheVariants as item
@@ -227,7 +226,7 @@ module _ (limit : ℕ) (text : List ℕ) (b : ℕ) (reader : Reader) (place coun
         let bad : bad_print t ≡ (weak || false) =
         ap (list_any (has_bad_mask (channels_of t))) sent ∙ ap (λ c. (c && weak) || false) (carries_as_before text b behind ∙ carries) in
         let P : Result Item WireFault → Type 0 = λ r. Brings r new limit t in
-        elim (known weak) [
+        elim (cases_Bool weak) [
           | inl many ↦ subst P (sym (outcome ∙ ap judge many))
               (met_by fine ∙ ap (λ c. cond c (Some (BadMask place)) None) (bad ∙ ap (λ c. c || false) many))
           | inr few ↦ subst P (sym (outcome ∙ ap judge few)) (

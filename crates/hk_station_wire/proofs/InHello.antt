@@ -8,7 +8,7 @@ use Rattle.hk_base.specs.declared.plain.WireFault.TheVariants.{BadHello}
 use Rattle.hk_spec_streams.specs.Pieces.{pieces_within}
 use Rattle.hk_spec_streams.specs.Grammar.{packets}
 use Rattle.hk_spec_streams.specs.Station.{station_met, channels_of, factor_of, segments}
-use Rattle.hk_spec_streams.specs.LastPacket.{last_packet, form_of}
+use Rattle.hk_station_wire.specs.LastPacket.{last_packet, form_of}
 use Rattle.hk_station_wire.specs.declared.item.Item.{Item}
 use Rattle.hk_station_wire.specs.declared.item.Item.TheVariants as item
 use Rattle.hk_wire.specs.declared.packet.LastPacket.{LastPacket}

@@ -1,7 +1,7 @@
 -- What each item tells of a text and its last byte, for every text.
 use Rattle.std.proofs.Common.{◌≡◌, ℕ, ◌+◌, ◌<◌, ◌≤◌, ◌⊎◌, List, [], ◌∷◌, ◌++◌, length, refl, sym, ◌∙◌, ap, subst, arith, length-append, Bool, true, false, inl, inr, Option, None, Some, cond, slice_index}
 use Rattle.std.proofs.lemmas.List.{append-nil}
-use Rattle.std.proofs.lemmas.Bool.{le-leb, lt-leb}
+use Rattle.std.proofs.lemmas.Bool.{le-leb, lt-leb, cases_Bool}
 use Rattle.std.proofs.lemmas.Bool.Decides.{leb_tells, eqb_tells}
 use Rattle.std.specs.Prelude.{◌&&◌, ◌==◌, nat_lt, drop, flat_map}
 use Rattle.std.specs.Option.{option_map_or}
@@ -9,13 +9,12 @@ use Rattle.std.specs.Int.{w32, from_be_bytes}
 use Rattle.hk_base.specs.declared.plain.WireFault.{WireFault}
 use Rattle.hk_spec_sound.specs.Groups.{rest_of}
 use Rattle.hk_spec_streams.specs.Station.{FENCE, GAP, Fence, channels_of, factor_of, station_met, station_fault, segments, sent_print, sent_prints, fences}
-use Rattle.hk_spec_streams.specs.LastPacket.{last_packet, last_byte, last_segment, all_sent_prints, begins_gap, ends_with_data, gap_is_open, form_of}
+use Rattle.hk_station_wire.specs.LastPacket.{last_packet, last_byte, last_segment, all_sent_prints, begins_gap, ends_with_data, gap_is_open, form_of}
 use Rattle.hk_spec_streams.proofs.NextFault.{seen_of-all, fault_of-before, fault_of-none, fault_of-some, fault_of-stays}
-use Rattle.hk_spec_streams.proofs.GrowingPackets.{known}
 use Rattle.hk_spec_streams.proofs.Completed.{completed-more}
-use Rattle.hk_spec_streams.proofs.GrowingSegments.{next_segments, NewSegment, SameSegment, last_byte-append}
-use Rattle.hk_spec_streams.proofs.GrowingPrints.{last_segment-append, next_prints, NoPrint, NoData, PartOfPrint, WholePrint, sent-whole, sent-part}
-use Rattle.hk_spec_streams.proofs.GrowingFences.{fence_in, fences-append}
+use Rattle.hk_station_wire.proofs.GrowingSegments.{next_segments, NewSegment, SameSegment, last_byte-append}
+use Rattle.hk_station_wire.proofs.GrowingPrints.{last_segment-append, next_prints, NoPrint, NoData, PartOfPrint, WholePrint, sent-whole, sent-part}
+use Rattle.hk_station_wire.proofs.GrowingFences.{fence_in, fences-append}
 use Rattle.hk_station_wire.specs.declared.item.Item.{Item}
 use Rattle.hk_station_wire.specs.declared.item.Item.TheVariants as item
 use Rattle.hk_station_wire.specs.declared.reader.Part.{Part}
@@ -202,7 +201,7 @@ module _ (limit : ℕ) (text : List ℕ) (b : ℕ) (fine : station_fault limit (
     part_says : (part : Part) → Is text b late part → says_of.Says (item_of (text ++ b ∷ [])) limit text b
     part_says Data by =
         let P : Item → Type 0 = λ i. says_of.Says i limit text b in
-        elim (known (carries_prints text)) [
+        elim (cases_Bool (carries_prints text)) [
           | inl carries ↦ prints_say by carries
           | inr sound ↦ subst P (sym (sound_item text b late by sound)) (sound_says by sound)
         ]

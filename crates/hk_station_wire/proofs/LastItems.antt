@@ -12,11 +12,11 @@ use Rattle.hk_base.specs.declared.plain.Form.{Form}
 use Rattle.hk_spec_sound.specs.Groups.{rest_of}
 use Rattle.hk_spec_streams.specs.Pieces.{last_bytes, completed}
 use Rattle.hk_spec_streams.specs.Grammar.{kind_of}
-use Rattle.hk_spec_streams.specs.Station.{DATA, FENCE, GAP, fences, Fence, channels_of, factor_of, segments, data_of, fence_of}
-use Rattle.hk_spec_streams.specs.LastPacket.{last_packet, last_byte, last_segment, all_sent_prints, begins_gap, ends_gap, ends_with_data, form_of}
-use Rattle.hk_spec_streams.proofs.GrowingSegments.{packets_short, last_byte-append}
-use Rattle.hk_spec_streams.proofs.GrowingPrints.{next_prints, NoPrint, NoData, PartOfPrint, WholePrint}
-use Rattle.hk_spec_streams.proofs.GrowingFences.{fences_completed, fence_in}
+use Rattle.hk_spec_streams.specs.Station.{DATA, FENCE, GAP, fences, Fence, channels_of, factor_of, segments}
+use Rattle.hk_station_wire.specs.LastPacket.{last_packet, last_byte, last_segment, all_sent_prints, begins_gap, ends_gap, ends_with_data, form_of}
+use Rattle.hk_station_wire.proofs.GrowingSegments.{packet_data, packets_short, last_byte-append}
+use Rattle.hk_station_wire.proofs.GrowingPrints.{next_prints, NoPrint, NoData, PartOfPrint, WholePrint}
+use Rattle.hk_station_wire.proofs.GrowingFences.{as_fence, fences_completed, fence_in}
 use Rattle.hk_station_wire.specs.declared.item.Item.{Item}
 use Rattle.hk_station_wire.specs.declared.item.Item.TheVariants as item
 use Rattle.hk_station_wire.specs.declared.reader.Part.{Part}
@@ -72,11 +72,11 @@ hello_packet text early = ap last_bytes (packets_short text early)
 
 pub hello_segments : (text : List ℕ) → length text ≤ 6 → segments text ≡ [] ∷ []
 unfolding segments
-hello_segments text early = ap (λ ps. map (flat_map data_of) (slice_split (λ packet. kind_of packet == GAP) ps)) (packets_short text early)
+hello_segments text early = ap (λ ps. map (flat_map packet_data) (slice_split (λ packet. kind_of packet == GAP) ps)) (packets_short text early)
 
 pub hello_fences : (text : List ℕ) → length text ≤ 6 → fences text ≡ []
 unfolding fences
-hello_fences text early = ap (filter_map fence_of) (packets_short text early)
+hello_fences text early = ap (filter_map as_fence) (packets_short text early)
 
 pub hello_segment : (text : List ℕ) → length text ≤ 6 → last_segment text ≡ []
 hello_segment text early = ap (λ parts. option_map_or (λ segment. segment) (last_or None parts) []) (hello_segments text early)

@@ -1,3 +1,6 @@
+pub mod GrowingSegments
+pub mod GrowingPrints
+pub mod GrowingFences
 pub mod MeetsFault
 pub mod Parts
 pub mod LastItems

@@ -12,10 +12,10 @@ use Rattle.hk_base.specs.declared.plain.WireFault.{WireFault}
 use Rattle.hk_base.specs.declared.plain.WireFault.TheVariants.{BadHello, BadKind, BadLength, BadMask, TooLong}
 use Rattle.hk_spec_streams.specs.Pieces.{first_that_holds, is_one_of, last_bytes, completed}
 use Rattle.hk_spec_streams.specs.Station.{DATA, station_met, station_hello, station_length_fits, has_bad_mask, channels_of}
-use Rattle.hk_spec_streams.specs.LastPacket.{last_packet, all_sent_prints, ends_with_data}
-use Rattle.hk_spec_streams.proofs.GrowingSegments.{packets_short}
+use Rattle.hk_station_wire.specs.LastPacket.{last_packet, all_sent_prints, ends_with_data}
+use Rattle.hk_station_wire.proofs.GrowingSegments.{packets_short}
 use Rattle.hk_spec_streams.proofs.Completed.{completed-more}
-use Rattle.hk_spec_streams.proofs.GrowingPrints.{next_prints, NoPrint, NoData, PartOfPrint, WholePrint}
+use Rattle.hk_station_wire.proofs.GrowingPrints.{next_prints, NoPrint, NoData, PartOfPrint, WholePrint}
 use Rattle.hk_wire.specs.declared.packet.LengthSize.TheVariants.{Two}
 use Rattle.hk_wire.specs.Held.{length_in}
 use Rattle.hk_station_wire.specs.Steps.{hello_allows, is_kind, head_fault}

@@ -1,15 +1,15 @@
 -- Whether a gap is open before and after a byte.
 use Rattle.std.proofs.Common.{◌≡◌, ℕ, ◌+◌, ◌-◌, ◌≤◌, List, [], ◌∷◌, ◌++◌, length, refl, sym, ◌∙◌, ap, arith, length-append, Bool, true, false, inl, inr, cond, slice_index}
-use Rattle.std.proofs.lemmas.Bool.{lt-ltb, le-ltb, eqb-true, and_parts}
+use Rattle.std.proofs.lemmas.Bool.{lt-ltb, le-ltb, eqb-true, and_parts, cases_Bool}
 use Rattle.std.proofs.lemmas.Bool.Decides.{leb_tells, eqb_tells}
 use Rattle.std.proofs.Math.Bool.{and-false, and-true}
 use Rattle.std.specs.Prelude.{◌&&◌, ◌||◌, ◌==◌, nat_lt}
 use Rattle.std.specs.Int.{w16}
 use Rattle.hk_spec_streams.specs.Grammar.{packet_size}
 use Rattle.hk_spec_streams.specs.Station.{DATA, FENCE, GAP}
-use Rattle.hk_spec_streams.specs.LastPacket.{last_packet, gap_is_open}
-use Rattle.hk_spec_streams.proofs.GrowingPackets.{over, known}
-use Rattle.hk_spec_streams.proofs.GrowingSegments.{last_packet-next}
+use Rattle.hk_station_wire.specs.LastPacket.{last_packet, gap_is_open}
+use Rattle.hk_spec_streams.proofs.GrowingPackets.{over}
+use Rattle.hk_station_wire.proofs.GrowingSegments.{last_packet-next}
 use Rattle.hk_station_wire.specs.declared.reader.Part.TheVariants.{Data, FenceEnd, GapBegin, GapEnd, Other}
 use Rattle.hk_station_wire.proofs.MeetsFault.{true_isnt_false}
 use Rattle.hk_station_wire.proofs.Parts.{Says}
@@ -60,7 +60,7 @@ same_side count not_one not_three = elim (leb_tells (count + 1) 3) [
 
 pub gap_before : (text : List ℕ) (b : ℕ) → 6 ≤ length text
     → gap_is_open text ≡ open_before (slice_index (last_packet (text ++ b ∷ [])) 0) (length (last_packet (text ++ b ∷ [])))
-gap_before text b late = elim (known (over (packet_size w16) (last_packet text))) [
+gap_before text b late = elim (cases_Bool (over (packet_size w16) (last_packet text))) [
   | inl begins ↦
       let alone : last_packet (text ++ b ∷ []) ≡ b ∷ [] = last_packet-next text b late ∙ ap (λ c. cond c (b ∷ []) (last_packet text ++ b ∷ [])) begins in
       closed (last_packet text) begins ∙ sym (ap (λ bytes. open_before (slice_index bytes 0) (length bytes)) alone)

@@ -1,6 +1,6 @@
 -- Where a text has no fault, its last packet's length is its kind's, so that no fence goes on behind its seventh byte.
 use Rattle.std.proofs.Common.{◌≡◌, ℕ, ◌+◌, ◌-◌, ◌≤◌, List, [], ◌∷◌, ◌++◌, length, drop, refl, sym, ◌∙◌, ap, subst, arith, length-append, Bool, true, false, inl, inr, Option, None, Some, cond, slice_index}
-use Rattle.std.proofs.lemmas.Bool.{eq-eqb, eqb-true, and_parts}
+use Rattle.std.proofs.lemmas.Bool.{eq-eqb, eqb-true, and_parts, cases_Bool}
 use Rattle.std.proofs.lemmas.Bool.Decides.{leb_tells, eqb_tells}
 use Rattle.std.proofs.Math.Bool.{or-true}
 use Rattle.std.specs.Prelude.{◌&&◌, ◌||◌, ◌==◌, not}
@@ -11,11 +11,11 @@ use Rattle.hk_base.specs.declared.plain.WireFault.TheVariants.{BadKind, BadLengt
 use Rattle.hk_spec_streams.specs.Pieces.{first_that_holds, last_bytes}
 use Rattle.hk_spec_streams.specs.Grammar.{packet_size}
 use Rattle.hk_spec_streams.specs.Station.{FENCE, Fence, station_met, station_fault, station_length_fits}
-use Rattle.hk_spec_streams.specs.LastPacket.{last_packet}
+use Rattle.hk_station_wire.specs.LastPacket.{last_packet}
 use Rattle.hk_spec_streams.proofs.NextFault.{by_bytes, fault_of-before}
-use Rattle.hk_spec_streams.proofs.GrowingPackets.{over, known}
-use Rattle.hk_spec_streams.proofs.GrowingSegments.{packets_short, last_packet-next}
-use Rattle.hk_spec_streams.proofs.GrowingFences.{fence_in}
+use Rattle.hk_spec_streams.proofs.GrowingPackets.{over}
+use Rattle.hk_station_wire.proofs.GrowingSegments.{packets_short, last_packet-next}
+use Rattle.hk_station_wire.proofs.GrowingFences.{fence_in}
 use Rattle.hk_wire.specs.declared.packet.LengthSize.TheVariants.{Two}
 use Rattle.hk_wire.specs.Held.{length_in}
 use Rattle.hk_station_wire.specs.Steps.{is_kind, head_fault}
@@ -62,7 +62,7 @@ fits_next limit text b before fine long_enough =
           (BadKind (length text)) (BadLength (length text - 1)) head in
           elim (eqb_tells (length bytes) 3) [
             | inl three ↦ passes _ (ap (λ c. c && not (station_length_fits (slice_index bytes 0) (length_in Two bytes))) (sym three.0) ∙ row)
-            | inr other ↦ elim (known (over (packet_size w16) (last_packet text))) [
+            | inr other ↦ elim (cases_Bool (over (packet_size w16) (last_packet text))) [
               | inl begins ↦
                   let alone : last_packet (text ++ b ∷ []) ≡ b ∷ [] =
                   last_packet-next text b late.1 ∙ ap (λ c. cond c (b ∷ []) (last_packet text ++ b ∷ [])) begins in
@@ -90,7 +90,7 @@ four n is = elim (eqb_tells n 4) [
 
 -- a fence with seven bytes is whole
 pub no_open_fence : (bytes : List ℕ) (place : ℕ) → Fits bytes → over (packet_size w16) bytes ≡ false → fence_in place bytes ≡ []
-no_open_fence bytes place fits_there part = elim (known ((slice_index bytes 0 == FENCE) && (length bytes == 7))) [
+no_open_fence bytes place fits_there part = elim (cases_Bool ((slice_index bytes 0 == FENCE) && (length bytes == 7))) [
   | inr isnt ↦
       let fence : Fence = record { asked = from_be_bytes w32 (drop 3 bytes); place = place } in
       ap (λ c. cond c (fence ∷ []) []) isnt

@@ -5,7 +5,7 @@ use Rattle.hk_station_wire.specs.declared.item.Item.{Item}
 use Rattle.hk_station_wire.specs.declared.item.Item.TheVariants.{Nothing, Hello, Byte, Print, Fence, Gap, Fault}
 use Rattle.hk_spec_streams.specs.Pieces.{completed}
 use Rattle.hk_spec_streams.specs.Station.{station_fault, channels_of, fences}
-use Rattle.hk_spec_streams.specs.LastPacket.{last_byte, ends_with_data, ends_gap, all_sent_prints, form_of}
+use Rattle.hk_station_wire.specs.LastPacket.{last_byte, ends_with_data, ends_gap, all_sent_prints, form_of}
 
 abbrev pub carries_prints : List ℕ → Bool
 carries_prints text = channels_of text == 0

@@ -1,3 +1,4 @@
+pub mod LastPacket
 pub mod Items
 pub mod Says
 pub mod Steps

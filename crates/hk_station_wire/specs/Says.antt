@@ -4,7 +4,7 @@ use Rattle.hk_base.specs.declared.plain.Form.{Form}
 use Rattle.hk_base.specs.declared.plain.Print.{Print}
 use Rattle.hk_base.specs.declared.plain.WireFault.{WireFault}
 use Rattle.hk_spec_streams.specs.Station.{station_fault, station_seen, segments, sent_prints, fences}
-use Rattle.hk_spec_streams.specs.LastPacket.{all_sent_prints, form_of, gap_is_open}
+use Rattle.hk_station_wire.specs.LastPacket.{all_sent_prints, form_of, gap_is_open}
 use Rattle.hk_station_wire.specs.declared.item.Item.{Item}
 use Rattle.hk_station_wire.specs.declared.item.Item.TheVariants as item
 

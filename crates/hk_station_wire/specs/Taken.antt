@@ -9,7 +9,7 @@ use Rattle.hk_wire.specs.Kept.{Keeps}
 use Rattle.hk_station_wire.specs.Items.{item_of, carries_prints}
 use Rattle.hk_spec_sound.specs.Groups.{rest_of}
 use Rattle.hk_spec_streams.specs.Station.{channels_of, factor_of, station_met}
-use Rattle.hk_spec_streams.specs.LastPacket.{last_packet, last_segment}
+use Rattle.hk_station_wire.specs.LastPacket.{last_packet, last_segment}
 
 -- how many bytes of the last packet came
 abbrev pub packet_count : Reader → ℕ

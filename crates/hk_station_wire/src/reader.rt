@@ -12,6 +12,9 @@ use hk_wire::{Gathered, LastPacket, LengthSize};
 
 pub const HELLO_SIZE: u64 = 6;
 
+// How many bytes a packet's kind and length are.
+const HEAD_SIZE: u64 = 3;
+
 const DATA: u8 = 1;
 
 const FENCE: u8 = 2;
@@ -182,7 +185,9 @@ fn head_fault(place: u64, count: u64, kind: u8, packet_length: u32) -> Option<Wi
 {
     match count {
         1 if !is_kind(kind) => Some(WireFault::BadKind(place)),
-        3 if !length_fits(kind, packet_length) => Some(WireFault::BadLength(place - 1)),
+        HEAD_SIZE if !length_fits(kind, packet_length) => Some(WireFault::BadLength(
+            place - (HEAD_SIZE - 2),
+        )),
         _ => None,
     }
 }
@@ -191,10 +196,10 @@ fn part_of(kind: u8, count: u64) -> Part
     ensures { result ≡ part_of kind count }
 {
     match kind {
-        DATA if count > 3 => Part::Data,
-        FENCE if count == 7 => Part::FenceEnd,
+        DATA if count > HEAD_SIZE => Part::Data,
+        FENCE if count == HEAD_SIZE + 4 => Part::FenceEnd,
         GAP if count == 1 => Part::GapBegin,
-        GAP if count == 3 => Part::GapEnd,
+        GAP if count == HEAD_SIZE => Part::GapEnd,
         _ => Part::Other,
     }
 }

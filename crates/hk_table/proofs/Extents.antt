@@ -10,7 +10,7 @@ use Rattle.hk_table.specs.Store.{Track, size_of, words_in}
 use Rattle.hk_table.specs.Extents.{track_of, tracks_of, IsWithin, IsSlotWithin, AreSlotsApart, AreApart, length_of, lengths_in}
 use Rattle.hk_table.specs.declared.extent.Extent.{Extent}
 
-pub get_map : {X : Type 0} (f : Extent → X) (slots : List (Option Extent)) (i : ℕ) → get_or (map (option_map f) slots) i None ≡ option_map f (get_or slots i None)
+pub get_map : {A X : Type 0} (f : A → X) (slots : List (Option A)) (i : ℕ) → get_or (map (option_map f) slots) i None ≡ option_map f (get_or slots i None)
 get_map f [] i = refl
 get_map f (s ∷ ss) zero = refl
 get_map f (s ∷ ss) (suc i) = get_map f ss i

@@ -1,3 +1,11 @@
 pub mod Extents
 pub mod Moves
 pub mod Room
+pub mod Buckets
+pub mod Walking
+pub mod Counting
+pub mod Adding
+pub mod Holding
+pub mod Finding
+pub mod Kept
+pub mod Indexed

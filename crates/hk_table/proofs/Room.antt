@@ -53,14 +53,17 @@ there_from_some slots slot e is = elim (cases_lt slot (length slots)) [
   | inr high ↦ absurd (let past : get_or slots slot None ≡ None = get_or_past slots slot None high in cc)
 ]
 
+-- a vector of no item, once it was filled
+pub filled : {A : Type 0} (value : A) (items : List A) (n k : ℕ) → items ≡ [] → k ≡ 0 → take n items ++ replicate (n - k) value ≡ replicate n value
+filled value items n k none start =
+    ap (λ xs. take n xs ++ replicate (n - k) value) none
+    ∙ ap (λ xs. xs ++ replicate (n - k) value) (take_all n [] (omega arith))
+    ∙ ap (λ j. replicate j value) (omega (arith, start))
+
 -- slots of which none was set
 pub slots_new : (words : List ℕ) (slots : List (Option Extent)) (n k : ℕ) → slots ≡ [] → k ≡ 0
     → tracks_of words (take n slots ++ replicate (n - k) None) ≡ replicate n None
-slots_new words slots n k none start =
-    ap (λ ss. tracks_of words (take n ss ++ replicate (n - k) None)) none
-    ∙ ap (λ ss. tracks_of words (ss ++ replicate (n - k) None)) (take_all n [] (omega arith))
-    ∙ ap (λ j. tracks_of words (replicate j None)) (omega (arith, start))
-    ∙ tracks-none words n
+slots_new words slots n k none start = ap (tracks_of words) (filled None slots n k none start) ∙ tracks-none words n
 
 -- one song more takes its words of the room
 pub spare-put : (store : Store) (slot : ℕ) (song : Track) → slot < length store.slots → song_at store slot ≡ None → length song.words ≤ spare store

@@ -1,3 +1,6 @@
 pub mod Store
 pub mod Extents
 pub mod Inside
+pub mod Index
+pub mod Walks
+pub mod Songs

@@ -21,7 +21,8 @@ pub struct LastPacket {
 }
 
 impl LastPacket {
-    ghost use Rattle.hk_wire.specs.Held.{IsLast, length_size, count_of, is_over, length_in};
+    ghost use Rattle.hk_spec_streams.specs.Grammar.{head_size};
+    ghost use Rattle.hk_wire.specs.Held.{IsLast, length_size, width_of, count_of, is_over, length_in};
 
     /// No packet yet.
     pub fn new(size: LengthSize) -> LastPacket
@@ -55,11 +56,17 @@ impl LastPacket {
     pub fn is_over(&self) -> bool
         ensures { (bytes : List ℕ) → IsLast self.now bytes → result ≡ is_over (length_size self.now) bytes }
     {
-        let head: u64 = match self.size {
+        self.count == 0 || self.count == self.head_size() + u64::from(self.length())
+    }
+
+    /// How many bytes a packet's kind and length are.
+    pub fn head_size(&self) -> u64
+        ensures { result ≡ head_size (width_of (length_size self.now)) }
+    {
+        match self.size {
             LengthSize::Two => 3,
             LengthSize::Four => 5,
-        };
-        self.count == 0 || self.count == head + u64::from(self.length())
+        }
     }
 
     /// How many bytes of the packet came.

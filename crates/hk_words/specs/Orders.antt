@@ -1,7 +1,7 @@
 -- An order as the definitions have it.
-use Rattle.std.specs.Prelude.{◌≡◌, ℕ, ◌≤◌, true}
+use Rattle.std.specs.Prelude.{◌≡◌, true}
 use Rattle.hk_spec_sound.specs.Prints.{full_analysis}
-use Rattle.hk_spec_sound.specs.Limits.{Range, CHANNELS, FACTORS, FLIPS, HOP, STATIONS, SONGS, POSITIONS, VERSIONS, BYTES, SEED}
+use Rattle.hk_spec_sound.specs.Limits.{IsInRange, CHANNELS, FACTORS, FLIPS, HOP, STATIONS, SONGS, POSITIONS, VERSIONS, BYTES, SEED}
 use Rattle.hk_spec_streams.specs.Pieces.{is_one_of}
 use Rattle.hk_spec_matching.specs.Matching.{MOST_ERRORS}
 use Rattle.hk_spec_settings.specs.Settings.{Rules}
@@ -29,27 +29,24 @@ order_meant (Replay rules) = words.Replay (rules_meant rules)
 order_meant (Print rules) = words.Print (printing_meant rules)
 order_meant (Make seed rules) = words.Make seed (rules_meant rules)
 
-abbrev pub IsWithin : Range → ℕ → Type 0
-IsWithin range n = (range.least ≤ n) × (n ≤ range.most)
-
 -- the ranges of a run's rules
 pub record RulesFit (r : RunRules) : Type 0 where
-  pub stations : IsWithin STATIONS r.stations
-  pub flips : IsWithin FLIPS r.flips
-  pub hop : IsWithin HOP r.hop
-  pub songs : IsWithin SONGS r.songs
-  pub positions : IsWithin POSITIONS r.positions
-  pub versions : IsWithin VERSIONS r.versions
-  pub bytes : IsWithin BYTES r.bytes
+  pub stations : IsInRange STATIONS r.stations
+  pub flips : IsInRange FLIPS r.flips
+  pub hop : IsInRange HOP r.hop
+  pub songs : IsInRange SONGS r.songs
+  pub positions : IsInRange POSITIONS r.positions
+  pub versions : IsInRange VERSIONS r.versions
+  pub bytes : IsInRange BYTES r.bytes
 
 -- the ranges of the sound that is printed
 pub record PrintingFits (p : PrintRules) : Type 0 where
   pub channels : is_one_of CHANNELS p.channels ≡ true
   pub factor : is_one_of FACTORS p.factor ≡ true
-  pub flips : IsWithin FLIPS p.flips
-  pub bytes : IsWithin BYTES p.bytes
+  pub flips : IsInRange FLIPS p.flips
+  pub bytes : IsInRange BYTES p.bytes
 
 abbrev pub OrderFits : Order → Type 0
 OrderFits (Replay rules) = RulesFit rules
 OrderFits (Print rules) = PrintingFits rules
-OrderFits (Make seed rules) = IsWithin SEED seed × RulesFit rules
+OrderFits (Make seed rules) = IsInRange SEED seed × RulesFit rules

@@ -1,7 +1,7 @@
 use Rattle.std.proofs.Common.{◌≡◌, length, option_map, ap, sym, ◌∙◌, subst}
 use Rattle.hk_spec_streams.specs.Pieces.{first_that_holds}
 use Rattle.hk_spec_matching.specs.Catalogue as edits
-use Rattle.hk_spec_runs.specs.Desk.{with_edit, song_of}
+use Rattle.hk_spec_runs.specs.Desk.{with_edit, added_song}
 use Rattle.hk_block.specs.Looker.{ShelfView}
 use Rattle.hk_catalogue.specs.Refusals.{reason_of, answered, add_tests, lengths_of}
 use Rattle.hk_catalogue.specs.Shelf.{with_change}
@@ -41,7 +41,7 @@ returns-in-Ok-clause-decided g c = λ rules desk all fixed at keeps room.
     decided_as _ _ c.stage.result _ _ _ _
     (ap (λ i. option_map reason_of (first_that_holds (add_tests view.limits (lengths_of view.present) i (length words)))) c.new.ensures.id ∙ both.0)
     (λ same. subst (λ (v : ShelfView). IsAtDesk rules v desk) (sym same) at)
-    (λ passes same. subst (λ (v : ShelfView). IsAtDesk rules v (with_edit rules desk (edits.Add c.args.id (song_of rules all)))) (sym same)
-    (subst (λ i. IsAtDesk rules (with_change view (edits.Add id (shelves.song_of words))) (with_edit rules desk (edits.Add i (song_of rules all)))) c.new.ensures.id
+    (λ passes same. subst (λ (v : ShelfView). IsAtDesk rules v (with_edit rules desk (edits.Add c.args.id (added_song rules all)))) (sym same)
+    (subst (λ i. IsAtDesk rules (with_change view (edits.Add id (shelves.song_of words))) (with_edit rules desk (edits.Add i (added_song rules all)))) c.new.ensures.id
     (song_at_desk rules view desk id words all fixed at both.1)))
     c.stage.ensures.decided

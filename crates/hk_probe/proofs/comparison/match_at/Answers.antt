@@ -1,19 +1,18 @@
 use Rattle.std.proofs.Common.{sym, ◌∙◌, arith}
+use Rattle.std.proofs.lemmas.Slice.Zip.{length-zip}
 use Rattle.hk_catalogue.specs.Shelves.{song_of}
 use Rattle.hk_probe.specs.Comparison.{query_of_prints}
-use Rattle.hk_probe.proofs.Matches.{match-some, match-over, match-no_hit}
-use Rattle.hk_probe.proofs.comparison.match_at.Goals.{else-errors-le-MOST_ERRORS-via-then-errors-le-MOST_ERRORS+else-hits, else-errors-le-MOST_ERRORS-via-else-errors-le-MOST_ERRORS}
+use Rattle.hk_probe.proofs.Matches.{match-first, match-no_hit, none_hits}
 use Rattle.hk_probe.proofs.comparison.match_at.Goals as goal
 
-pub returns-then-hits : goal.returns-then-hits
-returns-then-hits c whole =
-    match-some (query_of_prints c.args.prints.now) (c.args.id, song_of whole) (c.args.start, c.args.words.now) c.errors_at-errors.result
-    c.errors_at-errors.ensures c.if-errors-le-MOST_ERRORS.true (sym c.hits.ensures ∙ c.if-hits.true)
+pub returns-then-first_hit-lt-BLOCK_SIZE : goal.returns-then-first_hit-lt-BLOCK_SIZE
+returns-then-first_hit-lt-BLOCK_SIZE c whole =
+    c.match_within.ensures
+    ∙ match-first c.args.block.now.prints c.args.id c.args.start c.args.words.now whole (omega arith) (omega arith) (omega (arith, c.first_hit.ensures.first))
 
-pub returns-else-errors-le-MOST_ERRORS : goal.returns-else-errors-le-MOST_ERRORS
-returns-else-errors-le-MOST_ERRORS c whole = elim c.else-errors-le-MOST_ERRORS.branch [
-  | else-errors-le-MOST_ERRORS-via-then-errors-le-MOST_ERRORS+else-hits w ↦
-      match-no_hit (query_of_prints c.args.prints.now) (c.args.id, song_of whole) (c.args.start, c.args.words.now) (sym w.hits.ensures ∙ w.if-hits.false)
-  | else-errors-le-MOST_ERRORS-via-else-errors-le-MOST_ERRORS w ↦
-      match-over (query_of_prints c.args.prints.now) (c.args.id, song_of whole) (c.args.start, c.args.words.now) (omega (arith, w.if-errors-le-MOST_ERRORS.false, c.errors_at-errors.ensures))
-]
+pub returns-else-first_hit-lt-BLOCK_SIZE : goal.returns-else-first_hit-lt-BLOCK_SIZE
+returns-else-first_hit-lt-BLOCK_SIZE c whole =
+    let prints = c.args.block.now.prints in
+    let words = c.args.words.now in
+    sym (match-no_hit (query_of_prints prints) (c.args.id, song_of whole) (c.args.start, words)
+    (none_hits prints words (omega (arith, length-zip prints words, c.first_hit.ensures.first))))

@@ -9,9 +9,9 @@ use Rattle.hk_probe.proofs.full_scan.list_song.Goals as goal
 
 pub loop-start-preserved : goal.loop-start-preserved
 loop-start-preserved g c =
-    let query : Query = query_of_prints c.args.prints.now in
+    let query : Query = query_of_prints c.args.block.now.prints in
     let words = c.args.song.now.words in
-    let here = c.window.ensures.words ∙ start_words query words c.loop-start.start c.told-prints in
+    let here = c.window.ensures.words ∙ start_words query words c.loop-start.start (omega arith) in
     let id_is = ap (λ n. match_at query (n, song_of words) (c.loop-start.start, c.window.new.into)) c.id.ensures in
     elim c.match-match_at.branch [
       | in-Some w ↦
@@ -36,6 +36,6 @@ loop-start-preserved g c =
 
 pub returns-clause-list : goal.returns-clause-list
 returns-clause-list g c =
-    let query : Query = query_of_prints c.args.prints.now in
+    let query : Query = query_of_prints c.args.block.now.prints in
     c.loop-start.invariant.listed
-    ∙ ap (λ xs. c.args.scratch.now.matches ++ xs) (starts_of query (entry_of c.args.song.now) c.loop-start.start c.told-prints (omega arith) (omega arith))
+    ∙ ap (λ xs. c.args.scratch.now.matches ++ xs) (starts_of query (entry_of c.args.song.now) c.loop-start.start (omega arith) (omega arith) (omega arith))

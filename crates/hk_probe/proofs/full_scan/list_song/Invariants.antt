@@ -7,7 +7,7 @@ use Rattle.hk_probe.proofs.full_scan.list_song.Given as goal
 
 abbrev pub invariant-loop-start : goal.invariant-loop-start
 invariant-loop-start g l = record {
-  listed : l.scratch.matches ≡ l.fn.scratch.matches ++ matches_before (query_of_prints l.prints) (entry_of l.song) l.start;
+  listed : l.scratch.matches ≡ l.fn.scratch.matches ++ matches_before (query_of_prints l.block.prints) (entry_of l.song) l.start;
   few : length l.scratch.matches ≤ length l.fn.scratch.matches + l.start;
   room : l.scratch.room ≡ l.fn.scratch.room;
 }

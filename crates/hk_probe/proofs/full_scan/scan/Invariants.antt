@@ -8,7 +8,7 @@ use Rattle.hk_probe.proofs.full_scan.scan.Given as goal
 
 abbrev pub invariant-loop-n : goal.invariant-loop-n
 invariant-loop-n g l = record {
-  listed : l.scratch.matches ≡ matches (query_of_prints l.prints) (take l.n (songs_of l.catalogue));
+  listed : l.scratch.matches ≡ matches (query_of_prints l.block.prints) (take l.n (songs_of l.catalogue));
   few : length l.scratch.matches ≤ positions_of (take l.n (songs_of l.catalogue));
   room : l.scratch.room ≡ l.fn.scratch.room;
 }

@@ -4,7 +4,10 @@ use Rattle.std.specs.List.{All, insert}
 use Rattle.std.proofs.lemmas.List.{get_or_push, length_push, length-map}
 use Rattle.std.proofs.lemmas.List.Elements.{All-take}
 use Rattle.hk_spec_matching.specs.Catalogue.{with_song, positions_of}
-use Rattle.hk_table.specs.Store.{Store, Track, song_at}
+use Rattle.hk_table.specs.Store.{Store, Track, song_at, spare}
+use Rattle.hk_table.specs.Index.{Index, index_of, room, with_words_at}
+use Rattle.hk_table.proofs.Indexed.{index-put, room-indexed}
+use Rattle.hk_catalogue.proofs.Counting.{counted-insert}
 use Rattle.hk_catalogue.specs.Refusals.{has_id}
 use Rattle.hk_catalogue.specs.Entries.{pairs_of, AreRising, Splits}
 use Rattle.hk_catalogue.specs.Shelves.{Shelves, songs_in, songs_of, song_of}
@@ -18,6 +21,12 @@ use Rattle.hk_catalogue.proofs.Shelving.{All-insert, SameBut, held_stays, songs-
 use Rattle.hk_catalogue.proofs.Kept.{pair_of, has_in_view, same_but_set, set_in, length_set, free_stay, none_there}
 use Rattle.hk_catalogue.proofs.catalogue.Catalogue.add.Goals as goal
 
+pub insert-requires-clause-room : goal.insert-requires-clause-room
+insert-requires-clause-room c =
+    let left : room c.self.inside.table ≡ spare c.args.self.now.store =
+    ap room c.self.invariant.indexed ∙ room-indexed c.self.inside.store ∙ ap (λ (s : Shelves). spare s.store) c.self.view_is in
+    omega (arith, left, c.requires.words)
+
 -- where the song's entry is put
 splits : (c : goal.In-Ok) → Splits (pairs_of c.self.inside.index.items) c.args.song.now.id c.place_of-place.result
 splits c =
@@ -27,7 +36,7 @@ splits c =
 absent : (c : goal.In-Ok) → has_id (pairs_of c.self.inside.index.items) c.args.song.now.id ≡ false
 absent c = has_in_view c.self.inside c.args.self.now c.self.inside.index.items c.args.song.now.id c.self.view_is refl ∙ c.requires.new
 
-entries_are : (c : goal.In-Ok) → pairs_of c.insert.new.self.items ≡ insert (pairs_of c.self.inside.index.items) c.place_of-place.result (c.args.song.now.id, c.in-Some.slot)
+entries_are : (c : goal.In-Ok) → pairs_of c.insert-2.new.self.items ≡ insert (pairs_of c.self.inside.index.items) c.place_of-place.result (c.args.song.now.id, c.in-Some.slot)
 entries_are c =
     ap pairs_of c.in-Ok.ensures.items
     ∙ map-insert pair_of c.self.inside.index.items c.place_of-place.result (record { id = c.id-id.result; number = c.in-Some.slot })
@@ -55,7 +64,7 @@ put_in c = set_in c.self.inside.store c.put.new.self c.in-Some.slot (Some c.args
 off_slot : (c : goal.In-Ok) → All (λ e. e.1 ≢ c.in-Some.slot) (pairs_of c.self.inside.index.items)
 off_slot c = none_there c.self.inside.store c.in-Some.slot (pairs_of c.self.inside.index.items) (was_free c).empty c.self.invariant.held
 
-grown : (c : goal.In-Ok) → songs_in c.put.new.self (pairs_of c.insert.new.self.items)
+grown : (c : goal.In-Ok) → songs_in c.put.new.self (pairs_of c.insert-2.new.self.items)
     ≡ insert (songs_in c.self.inside.store (pairs_of c.self.inside.index.items)) c.place_of-place.result (c.args.song.now.id, song_of c.args.song.now.words)
 grown c =
     ap (songs_in c.put.new.self) (entries_are c)
@@ -74,7 +83,7 @@ invariant_of-self c =
     let size : length new.slots ≡ length inside.store.slots = length_set inside.store new slot (Some track) (changed c) in
     let distinct : AreDistinct (front ++ slot ∷ []) = subst AreDistinct (popped c) kept.distinct in
     let old_free : All (IsFree inside.store) front = subst (All (IsFree inside.store)) (sym c.in-Some.ensures.rest) (All-take (IsFree inside.store) _ inside.free.items kept.free) in
-    let sum : positions_of (songs_in new (pairs_of c.insert.new.self.items)) ≡ positions_of (songs_in inside.store index) + length track.words =
+    let sum : positions_of (songs_in new (pairs_of c.insert-2.new.self.items)) ≡ positions_of (songs_in inside.store index) + length track.words =
     ap positions_of (grown c) ∙ positions-insert (songs_in inside.store index) place track in
     record {
       rising = subst AreRising (sym (entries_are c)) (rising-insert index track.id slot place (splits c) (absent c) kept.rising);
@@ -86,6 +95,8 @@ invariant_of-self c =
       distinct = distinct-front front slot distinct;
       all_slots = omega (arith, kept.all_slots, c.in-Ok.ensures.len, ap length (popped c), length_push front slot, inside.free.ok, c.pop.new.self.ok, size);
       all_words = omega (arith, sum, c.put.ensures.spare, kept.all_words, ap (λ (s : Store). s.positions) c.put.ensures.put);
+      counted = counted-insert inside.store new slot place track index (pairs_of c.insert-2.new.self.items) c.put.ensures.put (was_free c).there (was_free c).empty (grown c) kept.counted;
+      indexed = c.insert.ensures ∙ ap (λ (x : Index). with_words_at x slot track.words) kept.indexed ∙ sym (index-put inside.store slot track) ∙ ap index_of (sym c.put.ensures.put);
       short = omega (arith, kept.short, size);
       room_index = omega (arith, kept.room_index, c.in-Ok.ensures.capacity, size);
       room_free = omega (arith, kept.room_free, c.in-Some.ensures.capacity, size);

@@ -1,11 +1,15 @@
 -- The entry goes from its place, and its slot is the last that is free.
 use Rattle.std.proofs.Common.{◌≡◌, ◌≢◌, ◌++◌, ◌<◌, [], ◌∷◌, ℕ, List, length, get_or, set, sym, ◌∙◌, ap, arith, subst, refl, None, true}
 use Rattle.std.specs.List.{All, remove}
+use Rattle.std.specs.Option.{IsSome}
 use Rattle.std.proofs.lemmas.Bool.{eqb-true}
 use Rattle.std.proofs.lemmas.List.{length-map, get_or-map}
 use Rattle.std.proofs.lemmas.List.Elements.{All-push}
 use Rattle.hk_spec_matching.specs.Catalogue.{has_song, without_song, positions_of}
 use Rattle.hk_table.specs.Store.{Store}
+use Rattle.hk_table.specs.Index.{Index, index_of, slot_at, without_words_at}
+use Rattle.hk_table.proofs.Indexed.{index-clear, some-indexed}
+use Rattle.hk_catalogue.proofs.Counting.{counted-remove}
 use Rattle.hk_catalogue.specs.Refusals.{has_id}
 use Rattle.hk_catalogue.specs.Entries.{pairs_of, AreRising, Splits}
 use Rattle.hk_catalogue.specs.Shelves.{Shelves, songs_in, songs_of}
@@ -45,6 +49,16 @@ clear-requires c =
     record {
       holds = some_from_held c.self.inside.store (pair_of c.remove-gone.result)
           (held_at c.self.inside.store c.self.inside.index.items c.place_of-place.result c.remove-gone.result c.self.invariant.held at.within c.remove-gone.ensures.value);
+    }
+
+pub remove-requires : goal.remove-requires
+remove-requires c =
+    let at = stands c.self.inside c.args.self.now c.as_slice.result.now c.args.id c.place_of-place.result c.self.view_is c.self.invariant
+    c.as_slice.ensures.value c.requires c.place_of-place.ensures.splits in
+    let held = held_at c.self.inside.store c.self.inside.index.items c.place_of-place.result c.remove-gone.result c.self.invariant.held at.within c.remove-gone.ensures.value in
+    record {
+      holds = subst (λ (x : Index). IsSome (slot_at x c.remove-gone.result.number)) (sym c.self.invariant.indexed)
+          (some-indexed c.self.inside.store c.remove-gone.result.number (some_from_held c.self.inside.store (pair_of c.remove-gone.result) held));
     }
 
 at_call : (c : goal.After-push_reserved) → StandsAt c.self.inside c.args.id c.place_of-place.result
@@ -111,6 +125,9 @@ invariant_of-self c =
       distinct = subst AreDistinct (sym c.push_reserved.ensures.items) (distinct-push inside.free.items gone.number kept.distinct others);
       all_slots = omega (arith, kept.all_slots, c.remove-gone.ensures.len, c.push_reserved.ensures.len, size);
       all_words = omega (arith, sum, ap positions_of (left c), c.clear.ensures.spare, kept.all_words, ap (λ (s : Store). s.positions) c.clear.ensures.cleared);
+      counted = counted-remove inside.store new place (pair_of gone) index (pairs_of c.remove-gone.new.self.items) c.clear.ensures.cleared there
+          (omega (arith, (at_call c).within, length-map inside.index.items pair_of)) pair (left c) kept.counted;
+      indexed = c.remove.ensures ∙ ap (λ (x : Index). without_words_at x gone.number) kept.indexed ∙ sym (index-clear inside.store gone.number) ∙ ap index_of (sym c.clear.ensures.cleared);
       short = omega (arith, kept.short, size);
       room_index = omega (arith, kept.room_index, c.remove-gone.ensures.capacity, size);
       room_free = omega (arith, kept.room_free, c.push_reserved.ensures.capacity, size);

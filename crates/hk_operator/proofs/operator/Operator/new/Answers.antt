@@ -4,7 +4,7 @@ use Rattle.hk_operator_wire.proofs.Taking.{no_text}
 use Rattle.hk_operator.specs.Draft.{IsDraft}
 use Rattle.hk_operator.specs.Sound.{IsRecording, sound_ahead}
 use Rattle.hk_operator_wire.specs.Items.{last_command}
-use Rattle.hk_operator.specs.Kept.{Words}
+use Rattle.hk_operator.specs.WordBuffer.{Buffered}
 use Rattle.hk_operator.specs.declared.draft.Draft.{Draft}
 use Rattle.hk_operator.proofs.Drafting.{no_draft}
 use Rattle.hk_operator.proofs.Following.{no_commands}
@@ -27,5 +27,5 @@ returns c = λ rules view desk fixed limit positions none at.
       limit = c.new.ensures.limit ∙ sym limit;
       short = omega (arith, limit, c.ranges.limit.fits);
       room = ap (λ (d : Draft). d.words.room) c.in_ok-new.ensures ∙ sym positions;
-      song_room = ap (λ (w : Words). w.room) c.in_ok-new-2.ensures.words ∙ sym positions;
+      song_room = ap (λ (w : Buffered). w.room) c.in_ok-new-2.ensures.words ∙ sym positions;
     }

@@ -16,12 +16,12 @@ returns-in-Some-clause-heard g c =
     ok_as (log_result (Over c.in-Some.kept)) (
       instants_at view c.args.piece.now,
       bytes_at view c.args.piece.now,
-      all_skipped c.args.piece.now c.args.self.now c.args.view.now c.args.log.now c.in-Some.kept c.in-Some.is,
+      all_skipped c.args.piece.now c.args.self.now c.args.view.now c.args.log.now c.args.steps.now c.in-Some.kept c.in-Some.is,
     )
 
 pub loop-byte-init : goal.loop-byte-init
 loop-byte-init g c = record {
-  heard = ([], refl, none_heard c.args.self.now c.args.view.now c.args.log.now);
+  heard = ([], refl, none_heard c.args.self.now c.args.view.now c.args.log.now c.args.steps.now);
   going = c.in_default.is;
   room = refl;
 }
@@ -39,7 +39,7 @@ loop-byte-preserved g c =
         xs ++ i ∷ [],
         map-append (λ (j : Instant). j.byte) xs (i ∷ []) ∙ ap (λ (bytes : List ℕ). bytes ++ i.byte ∷ []) before.heard.1 ∙ sym (take_more piece place 0 inside),
         HasHeard-append xs (i ∷ []) c.args.self.now c.loop-byte.self c.hear.new.self c.args.view.now c.loop-byte.view c.hear.new.view
-            c.args.log.now c.loop-byte.log c.hear.new.log before.heard.2 c.in-Going.ensures.heard,
+            c.args.log.now c.loop-byte.log c.hear.new.log c.args.steps.now c.loop-byte.steps c.hear.new.steps before.heard.2 c.in-Going.ensures.heard,
       );
       going = going_told c.hear.new.self.end c.in-Going.ensures.tells;
       room = c.hear.ensures.scratch_room ∙ before.room;
@@ -61,10 +61,10 @@ returns-in-Over-clause-heard g c =
       map-append (λ (j : Instant). j.byte) xs (i ∷ rest) ∙ ap (λ (bytes : List ℕ). bytes ++ i.byte ∷ bytes_in rest) before.heard.1
           ∙ ap (λ (bytes : List ℕ). take place piece ++ i.byte ∷ bytes) (bytes_at view (drop (place + 1) piece)) ∙ around_byte piece place inside,
       HasHeard-append xs (i ∷ rest) c.args.self.now c.loop-byte.self c.hear.new.self c.args.view.now c.loop-byte.view c.hear.new.view
-          c.args.log.now c.loop-byte.log c.hear.new.log before.heard.2
+          c.args.log.now c.loop-byte.log c.hear.new.log c.args.steps.now c.loop-byte.steps c.hear.new.steps before.heard.2
           (HasHeard-append (i ∷ []) rest c.loop-byte.self c.hear.new.self c.hear.new.self c.loop-byte.view c.hear.new.view c.hear.new.view
-          c.loop-byte.log c.hear.new.log c.hear.new.log one
-          (all_skipped (drop (place + 1) piece) c.hear.new.self c.hear.new.view c.hear.new.log c.in-Over.end ended)),
+          c.loop-byte.log c.hear.new.log c.hear.new.log c.loop-byte.steps c.hear.new.steps c.hear.new.steps one
+          (all_skipped (drop (place + 1) piece) c.hear.new.self c.hear.new.view c.hear.new.log c.hear.new.steps c.in-Over.end ended)),
     ))
     c.in-Over.ensures.heard
 
@@ -80,7 +80,7 @@ returns-in-Over-clause-torn g c = λ none.
       i,
       drop (place + 1) piece,
       ap (λ (bytes : List ℕ). bytes ++ i.byte ∷ drop (place + 1) piece) before.heard.1 ∙ around_byte piece place inside,
-      record { station = c.loop-byte.self; seen = c.loop-byte.view; whole = c.loop-byte.log; heard = before.heard.2; tears = torn },
+      record { station = c.loop-byte.self; seen = c.loop-byte.view; whole = c.loop-byte.log; made = c.loop-byte.steps; heard = before.heard.2; tears = torn },
     ))
     (c.in-Over.ensures.torn before.going)
 

@@ -7,7 +7,7 @@ use Rattle.hk_station.proofs.station.Station.feed.Given as goal
 abbrev pub invariant-loop-byte : goal.invariant-loop-byte
 invariant-loop-byte g l = record {
   heard : (instants : List Instant) × (bytes_in instants ≡ take l.byte-index l.fn.piece)
-      × HasHeard g.V.Looker g.K.Sink instants l.fn.self l.self l.fn.view l.view l.fn.log l.log;
+      × HasHeard g.V.Looker g.K.Sink instants l.fn.self l.self l.fn.view l.view l.fn.log l.log l.fn.steps l.steps;
   going : l.self.end ≡ None;
   room : l.scratch.room ≡ l.fn.scratch.room;
 }

@@ -2,7 +2,7 @@ use Rattle.std.proofs.Common.{drop, ◌≡◌, ◌∙◌, ◌++◌, ◌∷◌, [
 use Rattle.std.specs.Prelude.{◌==◌}
 use Rattle.std.proofs.lemmas.Bool.{eq-eqb}
 use Rattle.std.proofs.lemmas.Bool.Decides.{eqb_tells}
-use Rattle.hk_spec_streams.specs.LastPacket.{last_packet}
+use Rattle.hk_station_wire.specs.LastPacket.{last_packet}
 use Rattle.hk_station_wire.specs.Items.{carries_prints}
 use Rattle.hk_station_wire.proofs.reader.Reader.take_packet.Goals as goal
 use Rattle.hk_station_wire.proofs.MeetsFault.{be_four}
