@@ -1,31 +1,166 @@
 -- What a task does, from what a player's play does.
-use Rattle.std.proofs.Common.{◌≡◌, ◌++◌, ℕ, List, [], refl, sym, ◌∙◌, ap, subst, arith, inl, inr, true, false, Option, Some, None, option_map, append-nil}
+use Rattle.std.proofs.Common.{◌≡◌, ◌++◌, ◌+◌, ◌<◌, length, length-append, ℕ, List, [], refl, sym, ◌∙◌, ap, subst, arith, inl, inr, true, false, Option, Some, None, option_map, append-nil}
 use Rattle.std.specs.Prelude.{String}
-use Rattle.std.specs.Option.{IfSome}
+use Rattle.std.specs.Option.{IfSome, option_or, option_map_or}
+use Rattle.std.proofs.lemmas.Bool.Decides.{leb_tells}
 use Rattle.std.proofs.lemmas.Bool.{both_ways}
 use Rattle.std.proofs.lemmas.List.{append_cancel_left}
 use Rattle.hk_base.specs.Devices.{Rose, Took, Wrote, IsNothing}
-use Rattle.hk_spec_runs.specs.Outcome.{Task, task_of, Trades, IsWhole}
+use Rattle.hk_base.specs.declared.source.Source.{Ghosts as Sources}
+use Rattle.hk_base.specs.declared.sink.Sink.{Ghosts as Sinks}
+use Rattle.hk_base.specs.declared.plain.Trouble.{Trouble}
+use Rattle.hk_base.specs.declared.plain.Trouble.TheVariants.{BadRecord, TooLong}
+use Rattle.hk_base.proofs.Writing.{rose_never_falls}
+use Rattle.hk_spec_streams.specs.Records.{input_met, open_record}
+use Rattle.hk_run.proofs.Seen.{fault_more}
+use Rattle.hk_spec_runs.specs.Outcome.{Task, task_of, Trades, IsWhole, IsStopped}
 use Rattle.hk_spec_runs.proofs.EndsTold.{ends_are_told}
 use Rattle.hk_spec_runs.specs.Words.{Order, Replay, Print, Make, order_of}
 use Rattle.hk_words.specs.Options.{texts}
-use Rattle.hk_player.specs.Statuses.{IsPlayedStatus}
-use Rattle.hk_replay.specs.Top.{Does, IsTaskStatus, IfAsked, task_for, ENDED, NO_MEMORY}
+use Rattle.hk_player.specs.Endings as players
+use Rattle.hk_player.specs.declared.ending.Ending.{Ending}
+use Rattle.hk_player.specs.declared.ending.Ending.TheVariants.{Whole, Stopped, ReadFault, SinkFault}
+use Rattle.hk_printer.proofs.Limits.{within_limit, over_it}
+use Rattle.hk_replay.specs.Top.{Does, IfAsked, task_for, code_of, ENDED, IN_DISORDER, NO_MEMORY, READ_FAULT, WRITE_FAULT, STOPPED}
 
-pub task_status : (code : ℕ) → IsPlayedStatus code → IsTaskStatus code
-task_status code (inl e) = inl e
-task_status code (inr (inl e)) = inr (inl e)
-task_status code (inr (inr (inl e))) = inr (inr (inl e))
-task_status code (inr (inr (inr (inl e)))) = inr (inr (inr (inl e)))
-task_status code (inr (inr (inr (inr e)))) = inr (inr (inr (inr (inl e))))
+some_isnt : {A : Type 0} (x : A) → Some x ≡ None → ⊥
+some_isnt x is = cc
 
--- a played input has the status of no want of memory
-pub had_memory : (code : ℕ) → IsPlayedStatus code → code ≡ NO_MEMORY → ⊥
-had_memory code (inl e) four = let no : 0 ≡ 4 = sym e ∙ four in cc
-had_memory code (inr (inl e)) four = let no : 3 ≡ 4 = sym e ∙ four in cc
-had_memory code (inr (inr (inl e))) four = let no : 5 ≡ 4 = sym e ∙ four in cc
-had_memory code (inr (inr (inr (inl e)))) four = let no : 6 ≡ 4 = sym e ∙ four in cc
-had_memory code (inr (inr (inr (inr e)))) four = let no : 7 ≡ 4 = sym e ∙ four in cc
+-- a fault that was met stays, whatever bytes follow
+fault_stays : (order : Order) (b more : List ℕ) (t : Trouble) → (task_of order).met b ≡ Some t → ((task_of order).wrong (b ++ more) ≡ None) → ⊥
+fault_stays (Replay rules) b more t met right =
+    let met_at = input_met rules.stations rules.bytes in
+    some_isnt t (sym (ap (λ f. option_or f (option_map_or (λ r. Some (BadRecord r.place)) (open_record (b ++ more)) None)) (fault_more met_at b more t met)) ∙ right)
+fault_stays (Print p) b more t met right = elim (leb_tells (length b) p.bytes) [
+  | inl few ↦ some_isnt t (sym met ∙ within_limit p b few.1)
+  | inr many ↦
+      let long : length (b ++ more) ≡ length b + length more = length-append b more in
+      let over : p.bytes < length (b ++ more) = omega (arith, many.1, long) in
+      some_isnt (TooLong p.bytes) (sym (over_it p (b ++ more) over) ∙ right)
+]
+fault_stays (Make seed rules) b more t met right = some_isnt t (sym met)
+
+-- nothing stops an input with which nothing is wrong
+never_stopped : (order : Order) (whole b o : List ℕ) (left rest : Option (List ℕ)) → left ≡ Some whole → Took b left rest → IsStopped (task_of order) rest b o
+    → (task_of order).wrong whole ≡ None → ⊥
+never_stopped order whole b o left None tells took stopped right = let no : None ≡ Some whole = sym took ∙ tells in cc
+never_stopped order whole b o left (Some more) tells took stopped right =
+    let parts : Some (b ++ more) ≡ Some whole = sym took ∙ tells in
+    let same : b ++ more ≡ whole = cc in
+    by ((task_of order).met b) refl same
+  where
+    by : (f : Option Trouble) → (task_of order).met b ≡ f → b ++ more ≡ whole → ⊥
+    by (Some t) met same = fault_stays order b more t met (ap (task_of order).wrong same ∙ right)
+    by None met same =
+        let all : b ≡ whole = sym (append-nil b) ∙ ap (λ m. b ++ m) (sym (stopped.at_the_end met)) ∙ same in
+        some_isnt stopped.trouble (sym stopped.first ∙ ap (task_of order).wrong all ∙ right)
+
+-- What an order does, by the status of how it ended.
+module _ {S K : Type 0} (source : Sources S) (sink : Sinks K) (order : Order) (input input' : S) (out out' : K) where
+  abbrev Told : ℕ → Type 0
+  Told code = Does (task_of order) code (source.left input) (source.left input') (sink.written out) (sink.written out') (source.faults input) (source.faults input') (sink.faults out) (sink.faults out')
+
+  whole_told : players.Does source sink (task_of order) (Whole true) input input' out out' → Told ENDED
+  whole_told d = record {
+    known = inl refl;
+    reads_count = omega (arith, d.1);
+    writes_count = omega (arith, d.2);
+    no_memory_unread = λ is. cc;
+    no_memory_unwritten = λ is. cc;
+    ended = λ is. d.0;
+    in_disorder = λ is. cc;
+    read_fault = λ is. cc;
+    write_fault = λ is. cc;
+    stopped = λ is. cc;
+    read_fault_cause = λ is. cc;
+    write_fault_cause = λ is. cc;
+    no_read_failed = λ read write. d.1;
+    no_write_failed = λ write. d.2;
+    complete = λ b tells right reads writes memory. inl refl;
+  }
+
+  disorder_told : players.Does source sink (task_of order) (Whole false) input input' out out' → Told IN_DISORDER
+  disorder_told d = record {
+    known = inr (inl refl);
+    reads_count = omega (arith, d.1);
+    writes_count = omega (arith, d.2);
+    no_memory_unread = λ is. cc;
+    no_memory_unwritten = λ is. cc;
+    ended = λ is. cc;
+    in_disorder = λ is. d.0;
+    read_fault = λ is. cc;
+    write_fault = λ is. cc;
+    stopped = λ is. cc;
+    read_fault_cause = λ is. cc;
+    write_fault_cause = λ is. cc;
+    no_read_failed = λ read write. d.1;
+    no_write_failed = λ write. d.2;
+    complete = λ b tells right reads writes memory. inr refl;
+  }
+
+  stopped_told : players.Does source sink (task_of order) Stopped input input' out out' → Told STOPPED
+  stopped_told d = record {
+    known = inr (inr (inr (inr (inl refl))));
+    reads_count = omega (arith, d.1);
+    writes_count = omega (arith, d.2);
+    no_memory_unread = λ is. cc;
+    no_memory_unwritten = λ is. cc;
+    ended = λ is. cc;
+    in_disorder = λ is. cc;
+    read_fault = λ is. cc;
+    write_fault = λ is. cc;
+    stopped = λ is. d.0;
+    read_fault_cause = λ is. cc;
+    write_fault_cause = λ is. cc;
+    no_read_failed = λ read write. d.1;
+    no_write_failed = λ write. d.2;
+    complete = λ b tells right reads writes memory. absurd (never_stopped order b d.0.0 d.0.1 (source.left input) (source.left input') tells d.0.2 d.0.4 right);
+  }
+
+  unread_told : players.Does source sink (task_of order) ReadFault input input' out out' → Told READ_FAULT
+  unread_told d = record {
+    known = inr (inr (inl refl));
+    reads_count = rose_never_falls _ _ d.1;
+    writes_count = omega (arith, d.2);
+    no_memory_unread = λ is. cc;
+    no_memory_unwritten = λ is. cc;
+    ended = λ is. cc;
+    in_disorder = λ is. cc;
+    read_fault = λ is. d.0;
+    write_fault = λ is. cc;
+    stopped = λ is. cc;
+    read_fault_cause = λ is. d.1;
+    write_fault_cause = λ is. cc;
+    no_read_failed = λ read write. absurd (read refl);
+    no_write_failed = λ write. d.2;
+    complete = λ b tells right reads writes memory. absurd (reads d.1);
+  }
+
+  torn_told : players.Does source sink (task_of order) SinkFault input input' out out' → Told WRITE_FAULT
+  torn_told d = record {
+    known = inr (inr (inr (inl refl)));
+    reads_count = d.1;
+    writes_count = rose_never_falls _ _ d.2;
+    no_memory_unread = λ is. cc;
+    no_memory_unwritten = λ is. cc;
+    ended = λ is. cc;
+    in_disorder = λ is. cc;
+    read_fault = λ is. cc;
+    write_fault = λ is. d.0;
+    stopped = λ is. cc;
+    read_fault_cause = λ is. cc;
+    write_fault_cause = λ is. d.2;
+    no_read_failed = λ read write. absurd (write refl);
+    no_write_failed = λ write. absurd (write refl);
+    complete = λ b tells right reads writes memory. absurd (writes d.2);
+  }
+
+  pub told_by : (ending : Ending) (code : ℕ) → code ≡ code_of ending → players.Does source sink (task_of order) ending input input' out out' → Told code
+  told_by (Whole true) code is d = subst Told (sym is) (whole_told d)
+  told_by (Whole false) code is d = subst Told (sym is) (disorder_told d)
+  told_by Stopped code is d = subst Told (sym is) (stopped_told d)
+  told_by ReadFault code is d = subst Told (sym is) (unread_told d)
+  told_by SinkFault code is d = subst Told (sym is) (torn_told d)
 
 -- no memory for a task, and nothing done
 pub no_memory : (task : Task) (left written : Option (List ℕ)) (reads writes : ℕ) → Does task NO_MEMORY left left written written reads reads writes writes

@@ -4,6 +4,8 @@ use Rattle.std.specs.Option.{IfSome}
 use Rattle.hk_base.specs.Devices.{Rose}
 use Rattle.hk_spec_runs.specs.Words.{Order, Replay, Print, Make, order_of}
 use Rattle.hk_spec_runs.specs.Outcome.{Task, task_of, Trades, IsWhole, IsStopped, IsReadFault, IsWriteFault}
+use Rattle.hk_player.specs.declared.ending.Ending.{Ending}
+use Rattle.hk_player.specs.declared.ending.Ending.TheVariants.{Whole, Stopped, ReadFault, SinkFault}
 use Rattle.hk_words.specs.Options.{texts}
 
 -- what an order makes of an input; to make an input is no command of this program yet
@@ -41,6 +43,14 @@ WRITE_FAULT = 6
 
 abbrev pub STOPPED : ℕ
 STOPPED = 7
+
+-- the status of an input that was played
+abbrev pub code_of : Ending → ℕ
+code_of (Whole true) = ENDED
+code_of (Whole false) = IN_DISORDER
+code_of Stopped = STOPPED
+code_of ReadFault = READ_FAULT
+code_of SinkFault = WRITE_FAULT
 
 -- the statuses of a task: it ended, in order or not, reading failed, writing failed, a fault stopped it, or there was no memory for it
 abbrev pub IsTaskStatus : ℕ → Type 0

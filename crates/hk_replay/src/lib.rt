@@ -7,7 +7,9 @@
 
 mod printing;
 mod replaying;
+mod statuses;
 mod top;
 
 pub use hk_base::{Sink, Source, Status};
+pub use statuses::{NO_MEMORY, USAGE};
 pub use top::replay_top;

@@ -6,6 +6,7 @@ ghost use Rattle.hk_words.specs.Orders.{printing_meant, PrintingFits};
 ghost use Rattle.hk_printer.specs.Printed.{HasPrinted, printing_of};
 ghost use Rattle.hk_replay.specs.Top.{Does};
 
+use crate::statuses::{NO_MEMORY, status_of};
 use hk_base::{Sink, Source, Status, Steps};
 use hk_player::play;
 use hk_printer::Printer;
@@ -13,8 +14,6 @@ use hk_words::PrintRules;
 use std::alloc::Global;
 use std::marker::Brand;
 use std::sync::ledger::{Blank, Ledger};
-
-const NO_MEMORY: u8 = 4;
 
 /// Prints the input's sound.
 pub fn print<S: Source, K: Sink>(
@@ -55,5 +54,5 @@ fn print_counted<S: Source, K: Sink, L: Ledger>(
 {
     let mut printer = printer;
     let mut steps = Steps::new(blank);
-    play::<Printer, S, K, L>(&mut printer, input, out, &mut steps)
+    status_of(play::<Printer, S, K, L>(&mut printer, input, out, &mut steps))
 }

@@ -6,6 +6,7 @@ ghost use Rattle.hk_words.specs.Orders.{rules_meant, RulesFit};
 ghost use Rattle.hk_run.specs.Playing.{HasPlayed};
 ghost use Rattle.hk_replay.specs.Top.{Does};
 
+use crate::statuses::{NO_MEMORY, status_of};
 use hk_base::{Sink, Source, Status, Steps};
 use hk_player::play;
 use hk_run::Run;
@@ -13,8 +14,6 @@ use hk_words::RunRules;
 use std::alloc::Global;
 use std::marker::Brand;
 use std::sync::ledger::{Blank, Ledger};
-
-const NO_MEMORY: u8 = 4;
 
 /// Replays the input by these rules.
 pub fn replay<S: Source, K: Sink>(
@@ -49,5 +48,5 @@ fn replay_counted<S: Source, K: Sink, L: Ledger>(
 {
     let mut run = run;
     let mut steps = Steps::new(blank);
-    play::<Run, S, K, L>(&mut run, input, out, &mut steps)
+    status_of(play::<Run, S, K, L>(&mut run, input, out, &mut steps))
 }

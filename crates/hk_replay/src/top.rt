@@ -6,11 +6,10 @@ ghost use Rattle.hk_replay.specs.Top.{task_asked, IfAsked, IsStatus, ENDED, IN_D
 
 use crate::printing::print;
 use crate::replaying::replay;
+use crate::statuses::USAGE;
 use hk_base::{Sink, Source, Status};
 use hk_words::{Order, read_words};
 use std::alloc::Global;
-
-const USAGE: u8 = 2;
 
 /// Does what the words ask for with the input, and writes the answer: `replay` replays records, `print` prints sound. The
 /// statuses are 0 where all of the text was written and every stream ended in order, 3 where some stream didn't, 2 where the

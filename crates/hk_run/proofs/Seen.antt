@@ -47,3 +47,11 @@ module _ {F : Type 0} (met : List ℕ → Option F) where
       by None meets later =
           let found = later (fault_of-none met text x none meets) in
           (x ∷ found.0, ap (seen_of met) (sym (append_assoc text (x ∷ []) more)) ∙ found.1 ∙ append_assoc text (x ∷ []) found.0)
+
+-- a fault stays, whatever bytes follow
+pub fault_more : {F : Type 0} (met : List ℕ → Option F) (b more : List ℕ) (f : F) → fault_of met b ≡ Some f → fault_of met (b ++ more) ≡ Some f
+fault_more {F = F} met b more f is = from (first_met met b) refl is
+  where
+    from : (m : Option (ℕ × F)) → first_met met b ≡ m → option_map (λ (x : ℕ × F). x.1) m ≡ Some f → fault_of met (b ++ more) ≡ Some f
+    from None first e = cc
+    from (Some m) first e = ap (option_map (λ (x : ℕ × F). x.1)) (first_met-more met m b more first) ∙ e

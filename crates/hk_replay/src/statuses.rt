@@ -1,0 +1,34 @@
+// The statuses of the top call.
+ghost use Rattle.std.specs.Prelude.{◌≡◌};
+ghost use Rattle.hk_replay.specs.Top.{code_of};
+
+use hk_base::Status;
+use hk_player::Ending;
+
+pub const ENDED: u8 = 0;
+
+pub const USAGE: u8 = 2;
+
+pub const IN_DISORDER: u8 = 3;
+
+pub const NO_MEMORY: u8 = 4;
+
+pub const READ_FAULT: u8 = 5;
+
+pub const WRITE_FAULT: u8 = 6;
+
+pub const STOPPED: u8 = 7;
+
+// The status of an input that was played.
+pub fn status_of(ending: Ending) -> Status
+    ensures { result.code ≡ code_of ending }
+{
+    let code = match ending {
+        Ending::Whole(true) => ENDED,
+        Ending::Whole(false) => IN_DISORDER,
+        Ending::Stopped => STOPPED,
+        Ending::ReadFault => READ_FAULT,
+        Ending::SinkFault => WRITE_FAULT,
+    };
+    Status { code }
+}
