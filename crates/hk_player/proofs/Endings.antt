@@ -1,62 +1,60 @@
 -- How an input ends, as what all of it says.
-use Rattle.std.proofs.Common.{◌≡◌, ℕ, List, ◌++◌, refl, sym, ◌∙◌, ap, subst, append_assoc, append-nil, Bool, Option, Some, None, option_map, inl, inr}
-use Rattle.std.specs.Option.{option_or}
-use Rattle.hk_base.specs.Devices.{Took, Wrote, IsNothing}
+use Rattle.std.proofs.Common.{◌≡◌, ℕ, List, ◌++◌, refl, sym, ◌∙◌, ap, subst, append_assoc, Bool, true, false, Option, Some, None, inl, inr}
+use Rattle.hk_base.specs.Devices.{Took, Wrote, WroteFront, IsNothing}
 use Rattle.hk_base.proofs.Taking.{Wrote-append}
 use Rattle.hk_base.specs.declared.plain.Trouble.{Trouble}
 use Rattle.hk_base.specs.declared.plain.Trouble.TheVariants.{ReadFault}
 use Rattle.hk_spec_lines.specs.Lines.{trouble_line}
-use Rattle.hk_spec_streams.specs.Pieces.{first_met, fault_of, seen_of}
-use Rattle.hk_spec_streams.proofs.FirstFault.{first_met-more}
-use Rattle.hk_spec_runs.specs.Outcome.{Trades, IsWhole, IsStopped, IsReadFault, IsWriteFault}
-use Rattle.hk_report.specs.Fronts.{WroteFront}
-use Rattle.hk_player.specs.Course.{Course, task_of_course}
-use Rattle.hk_player.proofs.Faults.{seen_whole}
+use Rattle.hk_spec_runs.specs.Outcome.{Task, Trades, IsWhole, IsStopped, IsReadFault, IsWriteFault}
+use Rattle.hk_player.specs.Playing.{IsInForm, Ends, TearsEnd}
+use Rattle.hk_player.specs.Pieces.{HasPlayed, HasLeft, HasTorn}
 
-module _ (c : Course) (r b o : List ℕ) (rest : Option (List ℕ)) where
-  -- bytes without a fault are all seen
-  module _ (in_form : fault_of c.met b ≡ None) (is : o ≡ c.printed r b) where
-    seen : seen_of c.met b ≡ b
-    seen = seen_whole c.met b in_form
+module _ (t : Task) where
+  -- an input that is read isn't left unread
+  unread : {P : Type 0} → t.reads ≡ true → t.reads ≡ false → P
+  unread is isnt = absurd (let both : true ≡ false = sym is ∙ isnt in cc)
 
-    pub whole_end : (in_order : Bool) → IsNothing rest → c.ending b ≡ None → c.in_order r b ≡ in_order → IsWhole (task_of_course c) rest in_order b (o ++ c.finale r b)
-    whole_end in_order nothing may ordered = record {
-      to_the_end = λ reads. nothing;
-      unread = λ reads. cc;
+  module _ (r b o : List ℕ) (rest : Option (List ℕ)) (is : o ≡ t.text b r) where
+    pub whole_end : (in_order : Bool) (last : List ℕ) → t.reads ≡ true → IsNothing rest → t.wrong b ≡ None → t.ended b r ≡ in_order → t.whole b r ≡ t.text b r ++ last
+        → IsWhole t rest in_order b (o ++ last)
+    whole_end in_order last reads nothing right ordered whole = record {
+      to_the_end = λ reading. nothing;
+      unread = λ never. unread reads never;
       refused = r;
-      right = ap (λ f. option_or f (c.ending b)) in_form ∙ may;
-      text = ap (λ t. t ++ c.finale r b) is ∙ ap (λ t. c.printed r t ++ c.finale r t) (sym seen);
-      ended = ap (c.in_order r) seen ∙ ordered;
+      right = right;
+      text = ap (λ all. all ++ last) is ∙ sym whole;
+      ended = ordered;
     }
 
-    pub wrong_end : (trouble : Trouble) → IsNothing rest → c.ending b ≡ Some trouble → IsStopped (task_of_course c) rest b (o ++ trouble_line trouble)
-    wrong_end trouble nothing wrong = record {
+    pub stopped_end : (trouble : Trouble) → t.wrong b ≡ Some trouble → (t.met b ≡ None → IsNothing rest) → IsStopped t rest b (o ++ trouble_line trouble)
+    stopped_end trouble wrong nothing = record {
       trouble = trouble;
       refused = r;
-      first = ap (λ f. option_or f (c.ending b)) in_form ∙ wrong;
-      at_the_end = λ none. nothing;
-      text = ap (λ t. t ++ trouble_line trouble) (is ∙ ap (c.printed r) (sym seen));
+      first = wrong;
+      at_the_end = nothing;
+      text = ap (λ all. all ++ trouble_line trouble) is;
     }
 
-    pub unread : IsReadFault (task_of_course c) b (o ++ trouble_line ReadFault)
-    unread = record {
-      reads = refl;
+    pub unread_end : IsInForm t b → IsReadFault t b (o ++ trouble_line ReadFault)
+    unread_end form = record {
+      reads = form.reads;
       refused = r;
-      no_fault = in_form;
-      text = ap (λ t. t ++ trouble_line ReadFault) (is ∙ ap (c.printed r) (sym seen));
+      no_fault = form.no_fault;
+      text = ap (λ all. all ++ trouble_line ReadFault) is;
     }
 
-  pub left : (trouble : Trouble) → fault_of c.met b ≡ Some trouble → o ≡ c.printed r (seen_of c.met b) → IsStopped (task_of_course c) rest b (o ++ trouble_line trouble)
-  left trouble met is = record {
-    trouble = trouble;
-    refused = r;
-    first = ap (λ f. option_or f (c.ending b)) met;
-    at_the_end = λ none. absurd (some_isnt (sym met ∙ none));
-    text = ap (λ t. t ++ trouble_line trouble) is;
-  }
-    where
-      some_isnt : Some trouble ≡ None → ⊥
-      some_isnt e = cc
+  module _ (reads : t.reads ≡ true) (R : Type 0) (rest : Option (List ℕ)) (b o missing : List ℕ) where
+    pub torn_text : (r : List ℕ) → o ++ missing ≡ t.text b r → IsWriteFault t R rest b o
+    torn_text r is = record { unread = λ never. unread reads never; more = missing; text = inl (r, is) }
+
+    pub torn_whole : (in_order : Bool) → IsWhole t rest in_order b (o ++ missing) → IsWriteFault t R rest b o
+    torn_whole in_order whole = record { unread = λ never. unread reads never; more = missing; text = inr (inl (in_order, whole)) }
+
+    pub torn_stop : IsStopped t rest b (o ++ missing) → IsWriteFault t R rest b o
+    torn_stop stopped = record { unread = λ never. unread reads never; more = missing; text = inr (inr (inl stopped)) }
+
+    pub torn_read : R → IsReadFault t b (o ++ missing) → IsWriteFault t R rest b o
+    torn_read failed told = record { unread = λ never. unread reads never; more = missing; text = inr (inr (inr (failed, told))) }
 
 -- What a last line adds, whole or in front.
 module _ (b o line : List ℕ) (x y u v w : Option (List ℕ)) (took : Took b x y) (wrote : Wrote o u v) where
@@ -73,46 +71,59 @@ module _ (b o line : List ℕ) (x y u v w : Option (List ℕ)) (took : Took b x 
     so (o ++ front.0) front.1 (subst (P b) (ap (λ t. o ++ t) front.2 ∙ sym (append_assoc o front.0 front.1)) holds),
   )
 
-module _ (c : Course) (R : Type 0) (rest : Option (List ℕ)) (b o missing : List ℕ) where
-  pub torn_text : (r : List ℕ) → o ++ missing ≡ c.printed r (seen_of c.met b) → IsWriteFault (task_of_course c) R rest b o
-  torn_text r is = record { unread = λ reads. cc; more = missing; text = inl (r, is) }
+-- All that was read was played, by a player whose task stayed.
+module _ (t t' : Task) (same : t' ≡ t) (P : List ℕ → List ℕ → Type 0) (x y u v w : Option (List ℕ)) (played : Trades x y u v (HasPlayed P t)) (form' : IsInForm t' played.0) where
+  abbrev b : List ℕ
+  b = played.0
 
-  pub torn_whole : (in_order : Bool) → IsWhole (task_of_course c) rest in_order b (o ++ missing) → IsWriteFault (task_of_course c) R rest b o
-  torn_whole in_order whole = record { unread = λ reads. cc; more = missing; text = inr (inl (in_order, whole)) }
+  abbrev o : List ℕ
+  o = played.1
 
-  pub torn_stop : IsStopped (task_of_course c) rest b (o ++ missing) → IsWriteFault (task_of_course c) R rest b o
-  torn_stop stopped = record { unread = λ reads. cc; more = missing; text = inr (inr (inl stopped)) }
+  abbrev r : List ℕ
+  r = played.4.0
 
-  pub torn_read : R → IsReadFault (task_of_course c) b (o ++ missing) → IsWriteFault (task_of_course c) R rest b o
-  torn_read failed unread = record { unread = λ reads. cc; more = missing; text = inr (inr (inr (failed, unread))) }
+  form : IsInForm t played.0
+  form = subst (λ k. IsInForm k played.0) same form'
 
--- a fault stays, whatever bytes follow
-fault_more : {F : Type 0} (met : List ℕ → Option F) (b more : List ℕ) (f : F) → fault_of met b ≡ Some f → fault_of met (b ++ more) ≡ Some f
-fault_more {F = F} met b more f is = from (first_met met b) refl is
-  where
-    from : (m : Option (ℕ × F)) → first_met met b ≡ m → option_map (λ (x : ℕ × F). x.1) m ≡ Some f → fault_of met (b ++ more) ≡ Some f
-    from None first e = cc
-    from (Some m) first e = ap (option_map (λ (x : ℕ × F). x.1)) (first_met-more met m b more first) ∙ e
+  pub finished_whole : (in_order : Bool) → IsNothing y → Ends t' played.4.0 played.0 in_order v w → Trades x y u w (IsWhole t y in_order)
+  finished_whole in_order nothing ends' =
+      let ends : Ends t r b in_order v w = subst (λ k. Ends k r b in_order v w) same ends' in
+      with_line b o _ x y u v w played.2 played.3 (IsWhole t y in_order) ends.2.2 (whole_end t r b o y played.4.2 in_order ends.2.0 form.reads nothing ends.0 ends.1 ends.2.1)
 
--- nothing stops an input with which nothing is wrong
-pub never_stopped : (c : Course) (whole b o : List ℕ) (rest : Option (List ℕ)) → Took b (Some whole) rest → IsStopped (task_of_course c) rest b o
-    → (task_of_course c).wrong whole ≡ None → ⊥
-never_stopped c whole b o None took stopped right = cc
-never_stopped c whole b o (Some more) took stopped right =
-    let same : whole ≡ b ++ more = cc in
-    by (fault_of c.met b) refl same
-  where
-    some_isnt : {A : Type 0} (x : A) → Some x ≡ None → ⊥
-    some_isnt x e = cc
+  pub finished_torn : (R : Type 0) → IsNothing y → TearsEnd t' played.4.0 played.0 v w → Trades x y u w (IsWriteFault t R y)
+  finished_torn R nothing ends' =
+      let ends : TearsEnd t r b v w = subst (λ k. TearsEnd k r b v w) same ends' in
+      with_front b o _ x y u v w played.2 played.3 (IsWhole t y (t.ended b r)) (IsWriteFault t R y) ends.1.2
+      (whole_end t r b o y played.4.2 (t.ended b r) ends.1.0 form.reads nothing ends.0 refl ends.1.1) (λ o' missing holds. torn_whole t form.reads R y b o' missing (t.ended b r) holds)
 
-    by : (f : Option Trouble) → fault_of c.met b ≡ f → whole ≡ b ++ more → ⊥
-    by (Some trouble) is same =
-        some_isnt trouble (sym (ap (λ f. option_or f (c.ending whole)) (ap (fault_of c.met) same ∙ fault_more c.met b more trouble is)) ∙ right)
-    by None is same =
-        let all : whole ≡ b = same ∙ ap (λ m. b ++ m) (stopped.at_the_end is) ∙ append-nil b in
-        some_isnt stopped.trouble (sym stopped.first ∙ ap (λ t. option_or (fault_of c.met t) (c.ending t)) (sym all) ∙ right)
+  wrong_end : (trouble : Trouble) → IsNothing y → t'.wrong played.0 ≡ Some trouble → IsStopped t y b (o ++ trouble_line trouble)
+  wrong_end trouble nothing wrong = stopped_end t r b o y played.4.2 trouble (subst (λ k. k.wrong b ≡ Some trouble) same wrong) (λ none. nothing)
 
-pub stays_right : (c : Course) (whole : List ℕ) (left rest before now : Option (List ℕ)) → Trades left rest before now (IsStopped (task_of_course c) rest) → left ≡ Some whole
-    → (task_of_course c).wrong whole ≡ None → ⊥
-stays_right c whole left rest before now trades tells right =
-    never_stopped c whole trades.0 trades.1 rest (subst (λ (l : Option (List ℕ)). Took trades.0 l rest) tells trades.2) trades.4 right
+  pub wrong_told : (trouble : Trouble) → IsNothing y → t'.wrong played.0 ≡ Some trouble → Wrote (trouble_line trouble) v w → Trades x y u w (IsStopped t y)
+  wrong_told trouble nothing wrong line = with_line b o _ x y u v w played.2 played.3 (IsStopped t y) line (wrong_end trouble nothing wrong)
+
+  pub wrong_torn : (trouble : Trouble) (R : Type 0) → IsNothing y → t'.wrong played.0 ≡ Some trouble → WroteFront (trouble_line trouble) v w → Trades x y u w (IsWriteFault t R y)
+  wrong_torn trouble R nothing wrong front = with_front b o _ x y u v w played.2 played.3 (IsStopped t y) (IsWriteFault t R y) front
+      (wrong_end trouble nothing wrong) (λ o' missing holds. torn_stop t form.reads R y b o' missing holds)
+
+  pub unread_told : Wrote (trouble_line ReadFault) v w → Trades x y u w (IsReadFault t)
+  unread_told line = with_line b o _ x y u v w played.2 played.3 (IsReadFault t) line (unread_end t r b o y played.4.2 form)
+
+  pub unread_torn : (R : Type 0) → R → WroteFront (trouble_line ReadFault) v w → Trades x y u w (IsWriteFault t R y)
+  unread_torn R failed front = with_front b o _ x y u v w played.2 played.3 (IsReadFault t) (IsWriteFault t R y) front
+      (unread_end t r b o y played.4.2 form) (λ o' missing holds. torn_read t form.reads R y b o' missing failed holds)
+
+-- A fault or a failed write came before the end.
+module _ (t : Task) (reads : t.reads ≡ true) (x y u v w : Option (List ℕ)) where
+  left_end : (trouble : Trouble) (b o : List ℕ) (left : HasLeft t trouble b o) → IsStopped t y b (o ++ trouble_line trouble)
+  left_end trouble b o left = stopped_end t left.0 b o y left.2 trouble left.1.wrong (λ none. absurd (let both : Some trouble ≡ None = sym left.1.met ∙ none in cc))
+
+  pub left_told : (trouble : Trouble) → Trades x y u v (HasLeft t trouble) → Wrote (trouble_line trouble) v w → Trades x y u w (IsStopped t y)
+  left_told trouble left line = with_line left.0 left.1 _ x y u v w left.2 left.3 (IsStopped t y) line (left_end trouble left.0 left.1 left.4)
+
+  pub left_torn : (trouble : Trouble) (R : Type 0) → Trades x y u v (HasLeft t trouble) → WroteFront (trouble_line trouble) v w → Trades x y u w (IsWriteFault t R y)
+  left_torn trouble R left front = with_front left.0 left.1 _ x y u v w left.2 left.3 (IsStopped t y) (IsWriteFault t R y) front
+      (left_end trouble left.0 left.1 left.4) (λ o' missing holds. torn_stop t reads R y left.0 o' missing holds)
+
+pub torn_end : (t : Task) → t.reads ≡ true → (x y u v : Option (List ℕ)) (R : Type 0) → Trades x y u v (HasTorn t) → Trades x y u v (IsWriteFault t R y)
+torn_end t reads x y u v R torn = (torn.0, torn.1, torn.2, torn.3, torn_text t reads R y torn.0 torn.1 torn.4.1 torn.4.0 torn.4.2)

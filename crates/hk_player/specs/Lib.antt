@@ -1,4 +1,3 @@
-pub mod Course
 pub mod Playing
 pub mod Pieces
-pub mod Statuses
+pub mod Endings

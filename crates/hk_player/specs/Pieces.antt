@@ -1,8 +1,8 @@
 -- What was made of pieces of the input.
-use Rattle.std.specs.Prelude.{◌≡◌, ⊤, ℕ, List, ◌++◌, Some}
+use Rattle.std.specs.Prelude.{◌≡◌, ⊤, ℕ, List, ◌++◌, Option}
 use Rattle.hk_base.specs.declared.plain.Trouble.{Trouble}
-use Rattle.hk_spec_streams.specs.Pieces.{fault_of, seen_of}
-use Rattle.hk_player.specs.Course.{Course}
+use Rattle.hk_spec_runs.specs.Outcome.{Task}
+use Rattle.hk_player.specs.Playing.{Adds, AddsFront, Meets}
 use Rattle.hk_player.specs.declared.piece.Played.{Played}
 use Rattle.hk_player.specs.declared.piece.Played.TheVariants as played
 use Rattle.hk_player.specs.declared.input.Stop.{Stop}
@@ -21,14 +21,22 @@ IfLeft stops.End P = ⊤
 IfLeft stops.ReadFault P = ⊤
 IfLeft stops.SinkFault P = ⊤
 
+-- the longer bytes meet this fault, and what is printed up to there was written
+abbrev pub StopsAt : Task → List ℕ → List ℕ → List ℕ → Trouble → Option (List ℕ) → Option (List ℕ) → Type 0
+StopsAt task refused text longer trouble old new = Meets task longer trouble × ((refused' : List ℕ) × Adds task refused text refused' longer old new)
+
+-- a front of what is printed for the longer bytes was written
+abbrev pub IsTorn : Task → List ℕ → List ℕ → List ℕ → Option (List ℕ) → Option (List ℕ) → Type 0
+IsTorn task refused text longer old new = (refused' : List ℕ) × AddsFront task refused text refused' longer old new
+
 -- all bytes that were read were played, and all that is printed for them was written
-abbrev pub HasPlayed : (List ℕ → List ℕ → Type 0) → Course → List ℕ → List ℕ → Type 0
-HasPlayed played c b o = (refused : List ℕ) × played refused b × (o ≡ c.printed refused b)
+abbrev pub HasPlayed : (List ℕ → List ℕ → Type 0) → Task → List ℕ → List ℕ → Type 0
+HasPlayed played task b o = (refused : List ℕ) × played refused b × (o ≡ task.text b refused)
 
 -- the bytes that were read meet this fault, and what is printed up to there was written
-abbrev pub HasLeft : Course → Trouble → List ℕ → List ℕ → Type 0
-HasLeft c trouble b o = (refused : List ℕ) × (fault_of c.met b ≡ Some trouble) × (o ≡ c.printed refused (seen_of c.met b))
+abbrev pub HasLeft : Task → Trouble → List ℕ → List ℕ → Type 0
+HasLeft task trouble b o = (refused : List ℕ) × Meets task b trouble × (o ≡ task.text b refused)
 
 -- what was written begins what is printed for the bytes that were read
-abbrev pub HasTorn : Course → List ℕ → List ℕ → Type 0
-HasTorn c b o = (refused : List ℕ) × (missing : List ℕ) × (o ++ missing ≡ c.printed refused (seen_of c.met b))
+abbrev pub HasTorn : Task → List ℕ → List ℕ → Type 0
+HasTorn task b o = (refused : List ℕ) × (missing : List ℕ) × (o ++ missing ≡ task.text b refused)

@@ -1,7 +1,7 @@
 // The whole input, piece after piece.
-ghost use Rattle.std.specs.Prelude.{◌≡◌, ◌≤◌, [], ℕ, List};
-ghost use Rattle.hk_base.specs.Devices.{Rose, IsNothing};
-ghost use Rattle.hk_spec_runs.specs.Outcome.{Trades};
+ghost use Rattle.std.specs.Prelude.{◌≡◌, []};
+ghost use Rattle.hk_base.specs.Devices.{Counts, IsNothing};
+ghost use Rattle.hk_player.specs.Endings.{Between};
 ghost use Rattle.hk_player.specs.Pieces.{HasPlayed, HasLeft, HasTorn, IfLeft};
 
 use crate::piece::{Played, play_piece};
@@ -29,23 +29,17 @@ pub fn play_input<P: Player, S: Source, K: Sink, L: Ledger>(
     steps: &mut Steps<L>,
 ) -> Stop
     requires new { P.has_played player.old [] [] }
-    requires nothing_printed { (P.course player.old).printed [] [] ≡ [] }
-    ensures course_stays { P.course player.new ≡ P.course player.old }
+    requires nothing_printed { (P.task player.old).text [] [] ≡ [] }
+    ensures task_stays { P.task player.new ≡ P.task player.old }
     ensures end { result ≡ Stop.End → IsNothing (S.left input.new)
-        × Trades (S.left input.old) (S.left input.new) (K.written out.old) (K.written out.new) (HasPlayed (P.has_played player.new) (P.course player.old)) }
+        × Between S.Source K.Sink input.old input.new out.old out.new (HasPlayed (P.has_played player.new) (P.task player.old)) }
     ensures read_fault { result ≡ Stop.ReadFault →
-        Trades (S.left input.old) (S.left input.new) (K.written out.old) (K.written out.new) (HasPlayed (P.has_played player.new) (P.course player.old)) }
+        Between S.Source K.Sink input.old input.new out.old out.new (HasPlayed (P.has_played player.new) (P.task player.old)) }
     ensures stopped { IfLeft result (λ trouble.
-        Trades (S.left input.old) (S.left input.new) (K.written out.old) (K.written out.new) (HasLeft (P.course player.old) trouble)) }
-    ensures torn { result ≡ Stop.SinkFault →
-        Trades (S.left input.old) (S.left input.new) (K.written out.old) (K.written out.new) (HasTorn (P.course player.old)) }
-
-    ensures read_cause { result ≡ Stop.ReadFault → Rose (S.faults input.old) (S.faults input.new) }
-    ensures write_cause { result ≡ Stop.SinkFault → Rose (K.faults out.old) (K.faults out.new) }
-    ensures reads_count { S.faults input.old ≤ S.faults input.new }
-    ensures writes_count { K.faults out.old ≤ K.faults out.new }
-    ensures no_read_failed { (result ≡ Stop.ReadFault → ⊥) → S.faults input.new ≡ S.faults input.old }
-    ensures no_write_failed { (result ≡ Stop.SinkFault → ⊥) → K.faults out.new ≡ K.faults out.old }
+        Between S.Source K.Sink input.old input.new out.old out.new (HasLeft (P.task player.old) trouble)) }
+    ensures torn { result ≡ Stop.SinkFault → Between S.Source K.Sink input.old input.new out.old out.new (HasTorn (P.task player.old)) }
+    ensures reads { Counts (result ≡ Stop.ReadFault) (S.faults input.old) (S.faults input.new) }
+    ensures writes { Counts (result ≡ Stop.SinkFault) (K.faults out.old) (K.faults out.new) }
 {
     let mut buffer = [0u8; PIECE_SIZE];
     for _turn in 0..u64::MAX {

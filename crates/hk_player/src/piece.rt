@@ -1,8 +1,8 @@
 // Pieces of the input, byte after byte.
-ghost use Rattle.std.specs.Prelude.{◌≡◌, ◌≤◌, ◌++◌, ℕ, List};
-ghost use Rattle.hk_base.specs.Devices.{Rose};
-ghost use Rattle.hk_player.specs.Playing.{Adds, StopsAt, IsTorn};
-ghost use Rattle.hk_player.specs.Pieces.{IfPlayed};
+ghost use Rattle.std.specs.Prelude.{◌≡◌, ◌++◌, ℕ, List};
+ghost use Rattle.hk_base.specs.Devices.{Counts};
+ghost use Rattle.hk_player.specs.Playing.{Adds};
+ghost use Rattle.hk_player.specs.Pieces.{StopsAt, IsTorn, IfPlayed};
 
 use crate::player::{Player, Taken};
 use hk_base::{Sink, Steps, Trouble};
@@ -23,17 +23,15 @@ pub fn play_piece<P: Player, K: Sink, L: Ledger>(
     out: &mut K,
     steps: &mut Steps<L>,
 ) -> Played
-    ensures course_stays { P.course player.new ≡ P.course player.old }
+    ensures task_stays { P.task player.new ≡ P.task player.old }
     ensures all { result ≡ Played.All → (refused text : List ℕ) → P.has_played player.old refused text
         → (refused' : List ℕ) × P.has_played player.new refused' (text ++ piece.now)
-        × Adds (P.course player.old) refused text refused' (text ++ piece.now) (K.written out.old) (K.written out.new) }
+        × Adds (P.task player.old) refused text refused' (text ++ piece.now) (K.written out.old) (K.written out.new) }
     ensures stopped { IfPlayed result (λ trouble. (refused text : List ℕ) → P.has_played player.old refused text
-        → StopsAt (P.course player.old) refused text (text ++ piece.now) trouble (K.written out.old) (K.written out.new)) }
+        → StopsAt (P.task player.old) refused text (text ++ piece.now) trouble (K.written out.old) (K.written out.new)) }
     ensures torn { result ≡ Played.SinkFault → (refused text : List ℕ) → P.has_played player.old refused text
-        → IsTorn (P.course player.old) refused text (text ++ piece.now) (K.written out.old) (K.written out.new) }
-    ensures cause { result ≡ Played.SinkFault → Rose (K.faults out.old) (K.faults out.new) }
-    ensures never_falls { K.faults out.old ≤ K.faults out.new }
-    ensures counts_failures { (result ≡ Played.SinkFault → ⊥) → K.faults out.new ≡ K.faults out.old }
+        → IsTorn (P.task player.old) refused text (text ++ piece.now) (K.written out.old) (K.written out.new) }
+    ensures faults { Counts (result ≡ Played.SinkFault) (K.faults out.old) (K.faults out.new) }
 {
     for byte in piece {
         match player.take(*byte, out, steps) {

@@ -1,4 +1,3 @@
 pub mod Growing
 pub mod Limits
 pub mod Taking
-pub mod Tasks

@@ -1,18 +1,20 @@
 -- A byte more of the sound.
-use Rattle.std.proofs.Common.{◌≡◌, ℕ, ◌+◌, ◌<◌, ◌≤◌, List, [], ◌∷◌, ◌++◌, length, refl, sym, ◌∙◌, ap, arith, length-append, append-nil, Option, Some, None}
+use Rattle.std.proofs.Common.{◌≡◌, ℕ, ◌+◌, ◌<◌, ◌≤◌, List, [], ◌∷◌, ◌++◌, length, sym, ◌∙◌, ap, arith, length-append, append-nil, append_assoc, Option}
 use Rattle.std.specs.Prelude.{option_to_list}
 use Rattle.hk_base.specs.declared.plain.Print.{Print}
 use Rattle.hk_spec_sound.specs.Prints.{full_analysis, prints_of_sound}
+use Rattle.hk_base.specs.declared.plain.Trouble.TheVariants.{TooLong}
 use Rattle.hk_spec_lines.specs.Lines.{print_line}
+use Rattle.hk_spec_runs.specs.Words.{Printing, Print as Prints}
+use Rattle.hk_spec_runs.specs.Outcome.{task_of, print_text}
 use Rattle.hk_front.specs.Hearing as fronts
 use Rattle.hk_front.specs.Hearing.{Hearing, KeepsRules}
-use Rattle.hk_player.specs.Playing.{Goes}
-use Rattle.hk_player.proofs.Faults.{seen-more}
+use Rattle.hk_player.specs.Playing.{StopsBehind}
 use Rattle.hk_printer.specs.declared.printer.Printer.{Printer}
-use Rattle.hk_printer.specs.Sounding.{lines_of, met_at, print_course}
+use Rattle.hk_printer.specs.Sounding.{lines_of}
 use Rattle.hk_printer.specs.Printed.{HasPrinted, printing_of}
-use Rattle.hk_printer.proofs.Growing.{lines-more, lines_grow}
-use Rattle.hk_printer.proofs.Limits.{no_fault}
+use Rattle.hk_printer.proofs.Growing.{lines-more}
+use Rattle.hk_printer.proofs.Limits.{form_within, all_printed, prints_on, over_it, cut_off}
 
 -- a front that keeps its rules finds the same prints
 same_prints : (old new : Hearing) (bytes : List ℕ) → KeepsRules old new → fronts.prints_in new bytes ≡ fronts.prints_in old bytes
@@ -40,18 +42,11 @@ module _ (old : Printer) (text : List ℕ) (b : ℕ) (h : HasPrinted old text) (
         some_factor = omega (arith, h.some_factor, keeps.1.1);
         heard = heard;
         taken = omega (arith, taken, h.taken, long);
-        in_form = no_fault (printing_of new) (text ++ b ∷ []) (omega (arith, within, limit));
+        in_form = form_within (printing_of new) (text ++ b ∷ []) (omega (arith, within, limit)) (omega (arith, h.most, limit));
         within = omega (arith, within, limit);
         most = omega (arith, h.most, limit);
         lines = omega (arith, lines, h.lines, count, same);
       }
-
-  -- whatever bytes follow
-  pub goes : (refused : List ℕ) → Goes (print_course (printing_of old)) refused (text ++ b ∷ [])
-  goes refused more =
-      let seen = seen-more (met_at (printing_of old)) (text ++ b ∷ []) more (no_fault (printing_of old) (text ++ b ∷ []) within) in
-      let grown = lines_grow (printing_of old) h.some_channels h.some_factor (text ++ b ∷ []) seen.0 in
-      (grown.0, ap (lines_of (printing_of old)) seen.1 ∙ grown.1)
 
 -- the line of one print
 pub one_line : (old : Printer) (text : List ℕ) (b : ℕ) (p : Print) → HasPrinted old text
@@ -67,6 +62,36 @@ pub no_line : (old : Printer) (text : List ℕ) (b : ℕ) → fronts.prints_in o
     → lines_of (printing_of old) (text ++ b ∷ []) ≡ lines_of (printing_of old) text ++ []
 no_line old text b prints = lines-more (printing_of old) text (text ++ b ∷ []) [] prints
 
-pub none_left : {A : Type 0} (o : Option A) → ((x : A) → o ≡ Some x → ⊥) → o ≡ None
-none_left None other = refl
-none_left (Some x) other = absurd (other x refl)
+-- What a byte more prints, by its lines.
+module _ (old : Printer) (text : List ℕ) (b : ℕ) (h : HasPrinted old text) (room : length text < old.limit) where
+  p : Printing
+  p = printing_of old
+
+  pub added : (line : List ℕ) → lines_of (printing_of old) (text ++ b ∷ []) ≡ lines_of (printing_of old) text ++ line
+      → print_text (printing_of old) (text ++ b ∷ []) ≡ print_text (printing_of old) text ++ line
+  unfolding p
+  added line is =
+      let long : length (text ++ b ∷ []) ≡ length text + 1 = length-append text (b ∷ []) in
+      all_printed p (text ++ b ∷ []) (omega (arith, room, long)) ∙ is ∙ ap (λ o. o ++ line) (sym (all_printed p text h.within))
+
+  -- whatever bytes follow
+  pub torn : (front missing : List ℕ) → lines_of (printing_of old) (text ++ b ∷ []) ≡ lines_of (printing_of old) text ++ (front ++ missing) → (more : List ℕ)
+      → (rest : List ℕ) × (print_text (printing_of old) (text ++ b ∷ more) ≡ print_text (printing_of old) text ++ (front ++ rest))
+  unfolding p
+  torn front missing is more =
+      let long : length (text ++ b ∷ []) ≡ length text + 1 = length-append text (b ∷ []) in
+      let on = prints_on p (text ++ b ∷ []) h.some_channels h.some_factor more (omega (arith, room, long)) in (
+        missing ++ on.0,
+        ap (print_text p) (sym (append_assoc text (b ∷ []) more)) ∙ on.1 ∙ ap (λ o. o ++ on.0) (is ∙ ap (λ o. o ++ (front ++ missing)) (sym (all_printed p text h.within)))
+            ∙ regrouped (print_text p text) front missing on.0,
+      )
+    where
+      regrouped : (t f m r : List ℕ) → (t ++ (f ++ m)) ++ r ≡ t ++ (f ++ (m ++ r))
+      regrouped t f m r = simp append_assoc
+
+-- behind the limit
+pub stopped : (old : Printer) (refused text : List ℕ) (b : ℕ) → HasPrinted old text → length text ≡ old.limit → StopsBehind (task_of (Prints (printing_of old))) refused text b (TooLong old.limit)
+stopped old refused text b h full more =
+    let long : length (text ++ b ∷ more) ≡ length text + length (b ∷ more) = length-append text (b ∷ more) in
+    let over = over_it (printing_of old) (text ++ b ∷ more) (omega (arith, full, long)) in
+    (record { met = over; wrong = over }, cut_off (printing_of old) text (b ∷ more) full)

@@ -1,9 +1,9 @@
 -- A printer and the sound that it has printed.
-use Rattle.std.specs.Prelude.{◌≡◌, ℕ, ◌≤◌, ◌<◌, ◌^◌, List, length, None}
-use Rattle.hk_spec_streams.specs.Pieces.{fault_of}
-use Rattle.hk_spec_runs.specs.Words.{Printing}
+use Rattle.std.specs.Prelude.{◌≡◌, ℕ, ◌≤◌, ◌<◌, ◌^◌, List, length}
+use Rattle.hk_spec_runs.specs.Words.{Printing, Print}
+use Rattle.hk_spec_runs.specs.Outcome.{task_of}
 use Rattle.hk_front.specs.Hearing as fronts
-use Rattle.hk_printer.specs.Sounding.{met_at}
+use Rattle.hk_player.specs.Playing.{IsInForm}
 use Rattle.hk_printer.specs.declared.printer.Printer.{Printer}
 
 -- what the printer is set to
@@ -21,7 +21,7 @@ pub record HasPrinted (printer : Printer) (bytes : List ℕ) : Type 0 where
   pub some_factor : 1 ≤ fronts.factor_of printer.front
   pub heard : fronts.HasTaken printer.front bytes
   pub taken : printer.taken ≡ length bytes
-  pub in_form : fault_of (met_at (printing_of printer)) bytes ≡ None
+  pub in_form : IsInForm (task_of (Print (printing_of printer))) bytes
   pub within : length bytes ≤ printer.limit
   pub most : printer.limit < 2 ^ 63
   pub lines : printer.lines ≡ length (fronts.prints_in printer.front bytes)

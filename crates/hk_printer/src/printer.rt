@@ -52,10 +52,11 @@ impl Printer {
 }
 
 impl Player for Printer {
-    ghost use Rattle.hk_printer.specs.Sounding.{print_course};
+    ghost use Rattle.hk_spec_runs.specs.Words.{Print};
+    ghost use Rattle.hk_spec_runs.specs.Outcome.{task_of};
     ghost use Rattle.hk_printer.specs.Printed.{HasPrinted, printing_of};
 
-    ghost course = { λ p. print_course (printing_of p) };
+    ghost task = { λ p. task_of (Print (printing_of p)) };
 
     ghost has_played = { λ p refused text. HasPrinted p text };
 
@@ -64,15 +65,15 @@ impl Player for Printer {
             return Taken::Stopped(Trouble::TooLong(self.limit));
         }
         self.taken += 1;
-        let Some(print) = self.front.push(byte) else {
-            return Taken::Going;
-        };
-        match write_print(out, self.lines, &print) {
-            Ok(()) => {
-                self.lines += 1;
-                Taken::Going
-            }
-            Err(_) => Taken::SinkFault,
+        match self.front.push(byte) {
+            None => Taken::Going,
+            Some(print) => match write_print(out, self.lines, &print) {
+                Ok(()) => {
+                    self.lines += 1;
+                    Taken::Going
+                }
+                Err(_) => Taken::SinkFault,
+            },
         }
     }
 
@@ -80,5 +81,5 @@ impl Player for Printer {
         Finished::Whole(true)
     }
 
-    ghost in_form = { λ p refused text h. (h.in_form, h.within, h.most) };
+    ghost in_form = { λ p refused text h. h.in_form };
 }

@@ -7,7 +7,7 @@ use Rattle.hk_base.specs.declared.plain.Trouble.{Trouble}
 use Rattle.hk_spec_streams.specs.Records.{Arrival, ForStation, ForOperator, arrivals, arrival_after, arrival_in, head_size, input_met, open_bytes}
 use Rattle.hk_spec_streams.proofs.Completed.{completed-more}
 use Rattle.hk_spec_streams.proofs.GrowingRecords.{arrivals-append}
-use Rattle.hk_spec_runs.specs.Desk.{Rules}
+use Rattle.hk_spec_settings.specs.Settings.{Rules}
 use Rattle.hk_spec_runs.specs.Replay.{opening, arrived}
 use Rattle.hk_records.specs.Part.{told}
 use Rattle.hk_records.specs.Reader.{came_at}

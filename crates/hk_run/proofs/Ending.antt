@@ -6,14 +6,14 @@ use Rattle.std.proofs.lemmas.List.{take-append-drop, length-take-le}
 use Rattle.std.proofs.lemmas.List.Folds.{list_all-append}
 use Rattle.std.proofs.lemmas.List.Concat.{flat_map-append}
 use Rattle.std.proofs.lemmas.Option.{slice_get_within}
-use Rattle.hk_base.specs.Devices.{Wrote}
+use Rattle.hk_base.specs.Writing.{HasWritten, HasFailed}
+use Rattle.hk_base.specs.declared.sink.Sink.{Ghosts}
+use Rattle.hk_base.proofs.Writing.{written-append, failed_within, failed_behind}
 use Rattle.hk_spec_streams.specs.Station.{station_wrong}
 use Rattle.hk_spec_streams.proofs.GrowingBlocks.{enumerate-append}
-use Rattle.hk_spec_runs.specs.Desk.{Rules}
+use Rattle.hk_spec_settings.specs.Settings.{Rules}
 use Rattle.hk_spec_runs.specs.Replay.{Listener}
-use Rattle.hk_report.specs.Fronts.{WroteFront}
 use Rattle.hk_run.specs.Course.{listener_line, lines_from, station_lines, is_in_order, all_ended}
-use Rattle.hk_run.proofs.Finishing.{both_lines, first_torn, second_torn}
 
 module _ {A : Type 0} where
   next_taken : (xs : List A) (i : ℕ) (x : A) → slice_get xs i ≡ Some x → take (suc i) xs ≡ take i xs ++ x ∷ []
@@ -77,8 +77,9 @@ module _ (rules : Rules) (listeners : List Listener) (i : ℕ) (l : Listener) (t
       ∙ ap (λ t. station_lines rules (take i listeners) ++ t) (append-nil (listener_line rules (0 + length (take i listeners), l)))
       ∙ ap (λ n. station_lines rules (take i listeners) ++ listener_line rules (n, l)) number
 
-  pub wrote_more : (u v w : Option (List ℕ)) → Wrote (station_lines rules (take i listeners)) u v → Wrote (listener_line rules (i, l)) v w → Wrote (station_lines rules (take (i + 1) listeners)) u w
-  wrote_more u v w first second = both_lines _ _ _ u v w lines_more first second
+  pub wrote_more : {K : Type 0} {sink : Ghosts K} {x y z : K} → HasWritten sink (station_lines rules (take i listeners)) x y → HasWritten sink (listener_line rules (i, l)) y z
+      → HasWritten sink (station_lines rules (take (i + 1) listeners)) x z
+  wrote_more {sink = sink} {x = x} {z = z} first second = subst (λ t. HasWritten sink t x z) (sym lines_more) (written-append first second)
 
   pub ended_more : (all now : Bool) → all ≡ all_ended rules (take i listeners) → now ≡ is_in_order rules l → (all && now) ≡ all_ended rules (take (i + 1) listeners)
   ended_more all now so_far this =
@@ -97,15 +98,11 @@ module _ (rules : Rules) (listeners : List Listener) (i : ℕ) (l : Listener) (t
             ∙ flat_map-append (listener_line rules) (enumerate_from 0 front) (enumerate_from (0 + length front) (drop (i + 1) listeners)),
       )
 
-  pub torn_there : (u v w : Option (List ℕ)) → Wrote (station_lines rules (take i listeners)) u v → WroteFront (listener_line rules (i, l)) v w → WroteFront (station_lines rules listeners) u w
-  torn_there u v w first front =
-      second_torn (station_lines rules (take i listeners)) (listener_line rules (i, l) ++ rest.0) (station_lines rules listeners) u v w
-      (rest.1 ∙ ap (λ t. t ++ rest.0) lines_more ∙ append_assoc (station_lines rules (take i listeners)) (listener_line rules (i, l)) rest.0)
-      first (first_torn (listener_line rules (i, l)) rest.0 (listener_line rules (i, l) ++ rest.0) v w refl front)
+  pub torn_there : {K : Type 0} {sink : Ghosts K} {x y z : K} → HasWritten sink (station_lines rules (take i listeners)) x y → HasFailed sink (listener_line rules (i, l)) y z
+      → HasFailed sink (station_lines rules listeners) x z
+  torn_there {sink = sink} {x = x} {z = z} first torn =
+      subst (λ t. HasFailed sink t x z) (sym (rest.1 ∙ ap (λ t. t ++ rest.0) lines_more)) (failed_within rest.0 (failed_behind first torn))
 
 -- the line of a listener, by its station's number
-pub wrote_at : (rules : Rules) (l : Listener) (n i : ℕ) → n ≡ 0 + i → (u v : Option (List ℕ)) → Wrote (listener_line rules (n, l)) u v → Wrote (listener_line rules (i, l)) u v
-wrote_at rules l n i same u v wrote = let number : n ≡ i = omega (arith, same) in subst (λ k. Wrote (listener_line rules (k, l)) u v) number wrote
-
-pub front_at : (rules : Rules) (l : Listener) (n i : ℕ) → n ≡ 0 + i → (u v : Option (List ℕ)) → WroteFront (listener_line rules (n, l)) u v → WroteFront (listener_line rules (i, l)) u v
-front_at rules l n i same u v front = let number : n ≡ i = omega (arith, same) in subst (λ k. WroteFront (listener_line rules (k, l)) u v) number front
+pub numbered_at : (P : List ℕ → Type 0) (rules : Rules) (l : Listener) (n i : ℕ) → n ≡ 0 + i → P (listener_line rules (n, l)) → P (listener_line rules (i, l))
+numbered_at P rules l n i same holds = let number : n ≡ i = omega (arith, same) in subst (λ k. P (listener_line rules (k, l))) number holds

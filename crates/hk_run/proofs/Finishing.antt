@@ -3,62 +3,37 @@ use Rattle.std.proofs.Common.{◌≡◌, ℕ, ◌<◌, List, ◌++◌, length, r
 use Rattle.std.specs.Prelude.{◌&&◌, is_none, unwrap_or}
 use Rattle.std.specs.Option.{option_map_or, option_or}
 use Rattle.std.specs.List.{list_all}
-use Rattle.hk_base.specs.Devices.{Wrote}
-use Rattle.hk_base.proofs.Taking.{Wrote-append}
 use Rattle.hk_base.specs.declared.plain.OpEnd.{OpEnd}
 use Rattle.hk_base.specs.declared.plain.OpEnd.TheVariants as op_ends
 use Rattle.hk_base.specs.declared.plain.WireFault.{WireFault}
 use Rattle.hk_base.specs.declared.plain.Trouble.{Trouble}
-use Rattle.hk_base.specs.declared.plain.Trouble.TheVariants.{BadRecord}
 use Rattle.hk_spec_streams.specs.Station.{station_wrong}
 use Rattle.hk_spec_streams.specs.Operator.{commands, operator_wrong}
-use Rattle.hk_spec_streams.specs.Records.{input_wrong, open_record}
+use Rattle.hk_spec_streams.specs.Records.{input_wrong}
 use Rattle.hk_spec_lines.specs.Lines.{operator_line}
-use Rattle.hk_spec_runs.specs.Desk.{Rules, Desk}
-use Rattle.hk_spec_runs.specs.Outcome.{has_ended}
-use Rattle.hk_spec_runs.specs.Replay.{Scene, Listener, Clerk, summary, operator_end_of}
+use Rattle.hk_spec_runs.specs.Desk.{Desk}
+use Rattle.hk_spec_settings.specs.Settings.{Rules}
+use Rattle.hk_spec_runs.specs.Outcome.{task_of, has_ended}
+use Rattle.hk_spec_runs.specs.Words.{Replay}
+use Rattle.hk_spec_runs.specs.Replay.{Scene, Listener, Clerk, operator_end_of}
 use Rattle.hk_records.specs.Reader.{EndsWith, limit_of, stations_of}
-use Rattle.hk_report.specs.Fronts.{WroteFront}
 use Rattle.hk_block.specs.Looker.{ShelfView}
 use Rattle.hk_probe.specs.Single.{shelf_of}
 use Rattle.hk_operator.specs.Obeying.{IsObeying, IsAtEnd}
 use Rattle.hk_operator.specs.declared.operator.Operator.{Operator}
-use Rattle.hk_run.specs.Course.{replay_course, station_lines, all_ended, operator_ended}
+use Rattle.hk_run.specs.Course.{all_ended, operator_ended}
 use Rattle.hk_run.specs.Holding.{Holds}
 use Rattle.hk_run.specs.Playing.{HasPlayed}
 use Rattle.hk_run.specs.declared.run.Run.{Run}
 
--- Two lines one after another.
-pub both_lines : (a b whole : List ℕ) (u v w : Option (List ℕ)) → whole ≡ a ++ b → Wrote a u v → Wrote b v w → Wrote whole u w
-both_lines a b whole u v w is first second = subst (λ (t : List ℕ). Wrote t u w) (sym is) (Wrote-append a b u v w first second)
-
-pub first_torn : (a b whole : List ℕ) (u v : Option (List ℕ)) → whole ≡ a ++ b → WroteFront a u v → WroteFront whole u v
-first_torn a b whole u v is front =
-    let more : 0 < length (front.1 ++ b) = omega (arith, front.3, length-append front.1 b) in
-    (front.0, front.1 ++ b, is ∙ ap (λ t. t ++ b) front.2 ∙ append_assoc front.0 front.1 b, more, front.4)
-
-pub second_torn : (a b whole : List ℕ) (u v w : Option (List ℕ)) → whole ≡ a ++ b → Wrote a u v → WroteFront b v w → WroteFront whole u w
-second_torn a b whole u v w is first front =
-    (a ++ front.0, front.1, is ∙ ap (λ t. a ++ t) front.2 ∙ sym (append_assoc a front.0 front.1), front.3, Wrote-append a front.0 u v w first front.4)
-
 module _ (rules : Rules) (run : Run) (refused text : List ℕ) (h : HasPlayed rules run refused text) where
-  -- the reader's end, as the course has it
-  at_border : (T : Type 0) (x : T) → EndsWith {A = T} (stations_of run.reader) (limit_of run.reader) text (Ok x) → (replay_course rules).ending text ≡ None
-  at_border T x ends =
-      sym (ap (λ f. option_or f (option_map_or (λ r. Some (BadRecord r.place)) (open_record text) None)) h.no_fault)
-      ∙ ap (λ s. input_wrong s rules.bytes text) (sym h.stations) ∙ ap (λ l. input_wrong (stations_of run.reader) l text) (sym h.limit) ∙ ends
-
   -- an end that is no fault of the reader's
   pub between : (T : Type 0) (result : Result T Trouble) → EndsWith (stations_of run.reader) (limit_of run.reader) text result → ((trouble : Trouble) → result ≡ Err trouble → ⊥)
-      → (replay_course rules).ending text ≡ None
-  between T (Ok x) ends fine = at_border T x ends
+      → (task_of (Replay rules)).wrong text ≡ None
+  between T (Ok x) ends fine = ap (λ s. input_wrong s rules.bytes text) (sym h.stations) ∙ ap (λ l. input_wrong (stations_of run.reader) l text) (sym h.limit) ∙ ends
   between T (Err trouble) ends fine = absurd (fine trouble refl)
 
--- the stations' lines, and then the operator's
-pub summary_is : (rules : Rules) (scene : Scene) → summary rules scene
-    ≡ station_lines rules scene.listeners ++ operator_line (length (commands scene.clerk.used)) (length scene.desk.journal) (operator_end_of rules scene.clerk)
-summary_is rules scene = refl
-
+-- the operator's line, by its parts
 pub operator_line_is : (n v : ℕ) (e : OpEnd) (n' v' : ℕ) (e' : OpEnd) → n ≡ n' → v ≡ v' → e ≡ e' → operator_line n v e ≡ operator_line n' v' e'
 operator_line_is n v e n' v' e' counts versions ends =
     ap (λ m. operator_line m v e) counts ∙ ap (λ w. operator_line n' w e) versions ∙ ap (λ x. operator_line n' v' x) ends

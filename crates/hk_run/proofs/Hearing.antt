@@ -4,7 +4,7 @@ use Rattle.std.specs.Prelude.{flat_map, map, slice_get, slice_set, is_some}
 use Rattle.std.specs.List.{enumerate_from}
 use Rattle.std.proofs.lemmas.Bool.{le-ltb, both_ways}
 use Rattle.std.proofs.lemmas.Option.{slice_get_past}
-use Rattle.hk_base.specs.Devices.{Wrote}
+use Rattle.hk_base.specs.Devices.{Wrote, WroteFront}
 use Rattle.hk_base.specs.declared.plain.End.{End}
 use Rattle.hk_base.specs.declared.plain.End.TheVariants as ends
 use Rattle.hk_spec_streams.specs.Pieces.{completed}
@@ -12,13 +12,14 @@ use Rattle.hk_spec_streams.specs.Blocks.{blocks}
 use Rattle.hk_spec_streams.specs.Records.{ForStation}
 use Rattle.hk_spec_matching.specs.Catalogue.{Songs, version}
 use Rattle.hk_spec_lines.specs.Lines.{printed_text}
-use Rattle.hk_spec_runs.specs.Desk.{Rules, Desk}
+use Rattle.hk_spec_runs.specs.Desk.{Desk}
+use Rattle.hk_spec_settings.specs.Settings.{Rules}
 use Rattle.hk_spec_runs.specs.Replay.{Listener, Scene, arrived, for_station, reports, report, heard}
-use Rattle.hk_report.specs.Fronts.{WroteFront}
 use Rattle.hk_block.specs.Looker.{ShelfView}
 use Rattle.hk_probe.specs.Single.{Single, shelf_of}
-use Rattle.hk_station.specs.Hearing.{IsHearing, number_of, next}
-use Rattle.hk_station.specs.Outcome.{lines_gained, UnlessTorn, OnTorn}
+use Rattle.hk_spec_runs.specs.Listening.{next, lines_gained}
+use Rattle.hk_station.specs.Hearing.{IsHearing, number_of}
+use Rattle.hk_station.specs.Outcome.{UnlessTorn, OnTorn}
 use Rattle.hk_station.specs.declared.station.Progress.{Progress}
 use Rattle.hk_station.specs.declared.station.Progress.TheVariants.{Going, Over}
 use Rattle.hk_player.specs.declared.player.Taken.TheVariants as takens
@@ -29,7 +30,7 @@ use Rattle.hk_run.specs.Playing.{AddsScene, AddsSceneFront}
 use Rattle.hk_run.specs.Course.{taken_of}
 use Rattle.hk_run.specs.declared.run.Run.{Run}
 use Rattle.hk_run.proofs.Stations.{Found, exchanged, all_of}
-use Rattle.hk_player.proofs.Steps.{Wrote-nothing}
+use Rattle.hk_base.proofs.Taking.{Wrote-nothing}
 
 -- a byte for a station that is there
 pub station_scene : (rules : Rules) (refused : List ℕ) (scene : Scene) (k byte : ℕ) (l : Listener) → slice_get scene.listeners k ≡ Some l
@@ -102,20 +103,20 @@ module _ (rules : Rules) (scene : Scene) (run : Run) (k byte : ℕ) (station : S
               (subst (λ (v : ShelfView). IsObeying rules run.operator v scene.clerk scene.desk) (sym (ap shelf_of catalogues ∙ shelf)) h.obeys);
         })
 
-    pub adds_lines : (refused : List ℕ) (w y : Option (List ℕ)) → Wrote (lines_gained rules (number_of station) alone.version alone.songs at.listener byte) w y
+    pub adds_lines : (refused text : List ℕ) (w y : Option (List ℕ)) → text ≡ lines_gained rules (number_of station) alone.version alone.songs at.listener byte ++ [] → Wrote text w y
         → AddsScene scene (arrived rules refused scene (ForStation k byte)) w y
-    adds_lines refused w y wrote = (
+    adds_lines refused text w y is wrote = (
       reports rules k scene.desk.journal at.listener (next rules (length scene.desk.journal) at.listener byte),
       ap (λ (s : Scene). s.printed) (scene_heard refused),
-      subst (λ (t : List ℕ). Wrote t w y) lines_are wrote,
+      subst (λ (t : List ℕ). Wrote t w y) (is ∙ append-nil _ ∙ lines_are) wrote,
     )
 
-    pub adds_front : (refused : List ℕ) (w y : Option (List ℕ)) → WroteFront (lines_gained rules (number_of station) alone.version alone.songs at.listener byte) w y
+    pub adds_front : (refused line : List ℕ) (w y : Option (List ℕ)) → line ≡ lines_gained rules (number_of station) alone.version alone.songs at.listener byte → WroteFront line w y
         → AddsSceneFront scene (arrived rules refused scene (ForStation k byte)) w y
-    adds_front refused w y front = (
+    adds_front refused line w y is front = (
       reports rules k scene.desk.journal at.listener (next rules (length scene.desk.journal) at.listener byte),
       ap (λ (s : Scene). s.printed) (scene_heard refused),
-      subst (λ (t : List ℕ). WroteFront t w y) lines_are front,
+      subst (λ (t : List ℕ). WroteFront t w y) (is ∙ lines_are) front,
     )
 
 pub same_shelf : (p q : Single) → Some (shelf_of p) ≡ Some (shelf_of q) → shelf_of p ≡ shelf_of q

@@ -13,7 +13,8 @@ use Rattle.hk_spec_streams.specs.Pieces.{completed, first_that_holds}
 use Rattle.hk_spec_streams.specs.Operator.{Command, Publish, commands, operator_met}
 use Rattle.hk_spec_streams.proofs.Completed.{completed-more}
 use Rattle.hk_spec_streams.proofs.GrowingCommands.{commands-append}
-use Rattle.hk_spec_runs.specs.Desk.{Rules, Desk, answer, after, IsReply}
+use Rattle.hk_spec_runs.specs.Desk.{Desk, answer, after, IsReply}
+use Rattle.hk_spec_settings.specs.Settings.{Rules}
 use Rattle.hk_spec_runs.specs.Replay.{Clerk}
 use Rattle.hk_catalogue.specs.declared.refused.Refused.{Refused as Misfit}
 use Rattle.hk_catalogue.specs.declared.refused.Refused.TheVariants as misfits

@@ -2,14 +2,15 @@
 use Rattle.std.proofs.Common.{◌≡◌, ℕ, ◌+◌, [], ◌∷◌, ◌++◌, refl, sym, subst, arith}
 use Rattle.std.specs.Prelude.{replicate}
 use Rattle.std.proofs.lemmas.List.{replicate-append-replicate}
-use Rattle.hk_spec_runs.specs.Desk.{Rules, new_desk}
+use Rattle.hk_spec_runs.specs.Desk.{new_desk}
+use Rattle.hk_spec_settings.specs.Settings.{Rules}
 use Rattle.hk_spec_streams.specs.Records.{arrivals}
 use Rattle.hk_spec_streams.specs.Pieces.{pieces_within}
 use Rattle.hk_spec_matching.specs.Catalogue.{version}
 use Rattle.hk_records.specs.Reader.{HasRead, limit_of, stations_of}
 use Rattle.hk_records.proofs.Reading.{no_text}
 use Rattle.hk_probe.specs.Single.{Single, new_single, shelf_of}
-use Rattle.hk_station.specs.Hearing.{unheard}
+use Rattle.hk_spec_runs.specs.Listening.{unheard}
 use Rattle.hk_operator.specs.Desk.{IsAtDesk}
 use Rattle.hk_operator.specs.Sound.{IsFixed}
 use Rattle.hk_operator.specs.Obeying.{IsObeying, new_clerk}
@@ -40,8 +41,7 @@ opens r run fits read limit stations hears obeys = record {
   read = read;
   limit = limit;
   stations = stations;
-  no_fault = no_text r.stations r.bytes;
-  within = omega arith;
+  in_form = record { reads = refl; no_fault = no_text r.stations r.bytes; few = omega arith; };
   most = omega (arith, fits.bytes.1);
   holds = record { hears = hears; obeys = obeys };
   settled = none_settled (rules_meant r);

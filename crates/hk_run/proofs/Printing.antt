@@ -12,11 +12,12 @@ use Rattle.hk_spec_streams.specs.Pieces.{completed, fault_of}
 use Rattle.hk_spec_streams.specs.Records.{Arrival, ForStation, ForOperator, arrival_after, open_bytes, input_met}
 use Rattle.hk_spec_streams.specs.Operator.{Command, commands, operator_met}
 use Rattle.hk_spec_lines.specs.Lines.{Printed, Replied, printed_text}
-use Rattle.hk_spec_runs.specs.Desk.{Rules}
-use Rattle.hk_spec_runs.specs.Replay.{Scene, arrived, for_station, obeyed, reply_to, heard, reports}
-use Rattle.hk_player.specs.Playing.{Goes}
-use Rattle.hk_player.proofs.Faults.{seen-more}
-use Rattle.hk_run.specs.Course.{scene_after, replay_course}
+use Rattle.hk_spec_settings.specs.Settings.{Rules}
+use Rattle.hk_spec_runs.specs.Outcome.{task_of}
+use Rattle.hk_spec_runs.specs.Words.{Replay}
+use Rattle.hk_spec_runs.specs.Replay.{Scene, arrived, for_station, obeyed, reply_to, heard, reports, scene_of}
+use Rattle.hk_run.specs.Course.{scene_after, printed_for}
+use Rattle.hk_run.proofs.Seen.{seen-more}
 use Rattle.hk_run.proofs.Arriving.{scene_after-append}
 
 module _ (rules : Rules) (refused : List ℕ) where
@@ -65,12 +66,12 @@ module _ (rules : Rules) (refused : List ℕ) where
       (more.0, ap (λ (s : Scene). s.printed) (scene_after-append rules refused text b) ∙ more.1))
 
   -- whatever bytes follow those without a fault
-  pub goes : (text : List ℕ) → fault_of (input_met rules.stations rules.bytes) text ≡ None → Goes (replay_course rules) refused text
-  unfolding Grows
+  pub goes : (text : List ℕ) → fault_of (input_met rules.stations rules.bytes) text ≡ None → (more : List ℕ)
+      → (rest : List ℕ) × ((task_of (Replay rules)).text (text ++ more) refused ≡ printed_for rules refused text ++ rest)
+  unfolding Grows scene_of
   goes text fine more =
       let seen = seen-more (input_met rules.stations rules.bytes) text more fine in
       let grown = printed_grows text seen.0 in (
         flat_map printed_text grown.0,
-        ap (λ t. flat_map printed_text (scene_after rules refused t).printed) seen.1 ∙ ap (flat_map printed_text) grown.1
-            ∙ flat_map-append printed_text (scene_after rules refused text).printed grown.0,
+        ap (printed_for rules refused) seen.1 ∙ ap (flat_map printed_text) grown.1 ∙ flat_map-append printed_text (scene_after rules refused text).printed grown.0,
       )

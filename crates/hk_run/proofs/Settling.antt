@@ -11,7 +11,8 @@ use Rattle.hk_spec_streams.specs.Pieces.{first_that_holds, is_one_of, pieces_wit
 use Rattle.hk_spec_streams.specs.Operator.{Command, commands}
 use Rattle.hk_spec_streams.specs.Records.{ForStation, ForOperator, arrivals}
 use Rattle.hk_spec_lines.specs.Lines.{Replied}
-use Rattle.hk_spec_runs.specs.Desk.{Rules, refusals, answer, after, IsReply}
+use Rattle.hk_spec_runs.specs.Desk.{refusals, answer, after, IsReply}
+use Rattle.hk_spec_settings.specs.Settings.{Rules}
 use Rattle.hk_spec_runs.specs.Replay.{Scene, Clerk, arrived, obeyed}
 use Rattle.hk_operator.specs.Obeying.{clerk_after, new_commands}
 use Rattle.hk_operator.proofs.Joining.{for_operator_is}

@@ -1,7 +1,7 @@
 -- Stations and their listeners, one after another.
 use Rattle.std.proofs.Common.{◌≡◌, ℕ, zero, suc, ◌+◌, List, [], ◌∷◌, ◌++◌, length, refl, ap, subst, arith, Some, None}
 use Rattle.std.specs.Prelude.{slice_get, slice_set, unwrap_or}
-use Rattle.hk_spec_runs.specs.Desk.{Rules}
+use Rattle.hk_spec_settings.specs.Settings.{Rules}
 use Rattle.hk_spec_runs.specs.Replay.{Listener}
 use Rattle.hk_station.specs.Hearing.{IsHearing, number_of}
 use Rattle.hk_station.specs.declared.station.Station.{Station}

@@ -1,27 +1,29 @@
 -- A byte of the input: what it leaves of what was played.
-use Rattle.std.proofs.Common.{◌≡◌, ℕ, ◌≤◌, List, [], ◌∷◌, ◌++◌, length, sym, ◌∙◌, ap, subst, arith, append-nil, Option, None}
+use Rattle.std.proofs.Common.{◌≡◌, ℕ, ◌≤◌, List, [], ◌∷◌, ◌++◌, length, refl, sym, ◌∙◌, ap, subst, arith, append-nil, append_assoc, Option, None}
 use Rattle.std.specs.Prelude.{flat_map}
 use Rattle.std.proofs.lemmas.List.Concat.{flat_map-append}
-use Rattle.hk_base.specs.Devices.{Wrote}
+use Rattle.hk_base.specs.Devices.{Wrote, WroteFront}
 use Rattle.hk_spec_streams.specs.Records.{input_met}
 use Rattle.hk_spec_streams.proofs.FirstFault.{fault_of-none}
 use Rattle.hk_base.specs.declared.plain.What.{What}
 use Rattle.hk_spec_lines.specs.Lines.{Printed, Replied, printed_text, reply_line}
-use Rattle.hk_spec_runs.specs.Desk.{Rules}
+use Rattle.hk_spec_settings.specs.Settings.{Rules}
+use Rattle.hk_spec_runs.specs.Outcome.{task_of}
 use Rattle.hk_spec_runs.specs.Replay.{Scene}
+use Rattle.hk_spec_runs.specs.Words.{Replay}
 use Rattle.hk_records.specs.Reader.{HasRead, came_at, limit_of, stations_of}
 use Rattle.hk_records.specs.declared.reader.Came.{Came}
 use Rattle.hk_records.specs.declared.reader.RecordReader.{RecordReader}
-use Rattle.hk_report.specs.Fronts.{WroteFront}
-use Rattle.hk_player.specs.Playing.{Adds, AddsFront, Goes}
-use Rattle.hk_player.proofs.Steps.{Wrote-nothing}
+use Rattle.hk_base.proofs.Taking.{Wrote-nothing}
+use Rattle.hk_player.specs.Playing.{Adds, TearsBehind}
 use Rattle.hk_words.specs.Orders.{rules_meant}
 use Rattle.hk_words.specs.declared.order.RunRules.{RunRules}
-use Rattle.hk_run.specs.Course.{scene_after, replay_course}
+use Rattle.hk_run.specs.Course.{scene_after, printed_for}
 use Rattle.hk_run.specs.Holding.{Holds}
 use Rattle.hk_run.specs.Playing.{HasPlayed, IsSettled, AddsScene, AddsSceneFront}
 use Rattle.hk_run.specs.declared.run.Run.{Run}
 use Rattle.hk_run.proofs.Printing.{goes}
+use Rattle.hk_run.proofs.Tasks.{text_is}
 
 -- a run with the same parts holds the same
 pub held_by : (rules : Rules) (run run' : Run) (scene : Scene) → run'.stations ≡ run.stations → run'.operator ≡ run.operator → run'.catalogue ≡ run.catalogue
@@ -35,9 +37,6 @@ module _ (rules : Rules) (run : Run) (refused text : List ℕ) (byte : ℕ) (h :
       ap (λ s. came_at s rules.bytes (text ++ byte ∷ [])) (sym h.stations) ∙ ap (λ l. came_at (stations_of run.reader) l (text ++ byte ∷ [])) (sym h.limit) ∙ sym is
 
   module _ (reader : RecordReader) (read : HasRead reader (text ++ byte ∷ [])) (limit : limit_of reader ≡ limit_of run.reader) (stations : stations_of reader ≡ stations_of run.reader) where
-    within : length (text ++ byte ∷ []) ≤ rules.bytes
-    within = omega (arith, read.within, read.taken, limit, h.limit)
-
     -- the run goes on with the scene of some list of refused commands
     pub plays_on : (run' : Run) (refused' : List ℕ) (next : Scene) → input_met rules.stations rules.bytes (text ++ byte ∷ []) ≡ None → run'.reader ≡ reader → scene_after rules refused' (text ++ byte ∷ []) ≡ next
         → IsSettled rules refused' (text ++ byte ∷ []) → Holds rules run' next → HasPlayed rules run' refused' (text ++ byte ∷ [])
@@ -45,36 +44,48 @@ module _ (rules : Rules) (run : Run) (refused text : List ℕ) (byte : ℕ) (h :
       read = rw readers read;
       limit = ap limit_of readers ∙ limit ∙ h.limit;
       stations = ap stations_of readers ∙ stations ∙ h.stations;
-      no_fault = fault_of-none (input_met rules.stations rules.bytes) text byte h.no_fault none;
-      within = within;
+      in_form = record {
+        reads = refl;
+        no_fault = fault_of-none (input_met rules.stations rules.bytes) text byte h.in_form.no_fault none;
+        few = omega (arith, read.within, read.taken, limit, h.limit, h.most);
+      };
       most = h.most;
       holds = subst (λ (s : Scene). Holds rules run' s) (sym is) holds;
       settled = settled;
     }
 
-    -- and prints on
-    pub goes_on : (refused' : List ℕ) → input_met rules.stations rules.bytes (text ++ byte ∷ []) ≡ None → Goes (replay_course rules) refused' (text ++ byte ∷ [])
-    goes_on refused' none = goes rules refused' (text ++ byte ∷ []) (fault_of-none (input_met rules.stations rules.bytes) text byte h.no_fault none)
+  module _ (refused' : List ℕ) (none : input_met rules.stations rules.bytes (text ++ byte ∷ []) ≡ None) (next : Scene) (is : scene_after rules refused' (text ++ byte ∷ []) ≡ next) where
+    fine : (task_of (Replay rules)).met (text ++ byte ∷ []) ≡ None
+    fine = fault_of-none (input_met rules.stations rules.bytes) text byte h.in_form.no_fault none
 
-  prints_more : (refused' : List ℕ) (next : Scene) (more : List Printed) → scene_after rules refused' (text ++ byte ∷ []) ≡ next → next.printed ≡ (scene_after rules refused text).printed ++ more
-      → (replay_course rules).printed refused' (text ++ byte ∷ []) ≡ (replay_course rules).printed refused text ++ flat_map printed_text more
-  prints_more refused' next more is prints =
-      ap (λ (s : Scene). flat_map printed_text s.printed) is ∙ ap (flat_map printed_text) prints
-      ∙ flat_map-append printed_text (scene_after rules refused text).printed more
+    prints_more : (more : List Printed) → next.printed ≡ (scene_after rules refused text).printed ++ more
+        → printed_for rules refused' (text ++ byte ∷ []) ≡ (task_of (Replay rules)).text text refused ++ flat_map printed_text more
+    prints_more more prints =
+        ap (λ (s : Scene). flat_map printed_text s.printed) is ∙ ap (flat_map printed_text) prints
+        ∙ flat_map-append printed_text (scene_after rules refused text).printed more
+        ∙ ap (λ t. t ++ flat_map printed_text more) (sym (text_is rules refused text h.in_form.no_fault))
 
-  pub adds_all : (refused' : List ℕ) (next : Scene) (w y : Option (List ℕ)) → scene_after rules refused' (text ++ byte ∷ []) ≡ next → AddsScene (scene_after rules refused text) next w y
-      → Adds (replay_course rules) refused text refused' (text ++ byte ∷ []) w y
-  adds_all refused' next w y is adds = (flat_map printed_text adds.0, prints_more refused' next adds.0 is adds.1, adds.2)
+    pub adds_all : (w y : Option (List ℕ)) → AddsScene (scene_after rules refused text) next w y → Adds (task_of (Replay rules)) refused text refused' (text ++ byte ∷ []) w y
+    adds_all w y adds = (flat_map printed_text adds.0, text_is rules refused' (text ++ byte ∷ []) fine ∙ prints_more adds.0 adds.1, adds.2)
 
-  pub adds_some : (refused' : List ℕ) (next : Scene) (w y : Option (List ℕ)) → scene_after rules refused' (text ++ byte ∷ []) ≡ next → AddsSceneFront (scene_after rules refused text) next w y
-      → AddsFront (replay_course rules) refused text refused' (text ++ byte ∷ []) w y
-  adds_some refused' next w y is adds =
-      let front = adds.2 in
-      (front.0, front.1, prints_more refused' next adds.0 is adds.1 ∙ ap (λ t. (replay_course rules).printed refused text ++ t) front.2, front.4)
+    -- whatever bytes follow
+    pub adds_some : (w y : Option (List ℕ)) → AddsSceneFront (scene_after rules refused text) next w y → TearsBehind (task_of (Replay rules)) refused text byte w y
+    adds_some w y adds = (refused', λ more.
+        let front = adds.2 in
+        let on = goes rules refused' (text ++ byte ∷ []) fine more in (
+          front.0,
+          front.1 ++ on.0,
+          ap (λ t. (task_of (Replay rules)).text t refused') (sym (append_assoc text (byte ∷ []) more)) ∙ on.1
+              ∙ ap (λ t. t ++ on.0) (prints_more adds.0 adds.1 ∙ ap (λ t. (task_of (Replay rules)).text text refused ++ t) front.2)
+              ∙ regrouped ((task_of (Replay rules)).text text refused) front.0 front.1 on.0,
+          front.4,
+        ))
+      where
+        regrouped : (t f m r : List ℕ) → (t ++ (f ++ m)) ++ r ≡ t ++ (f ++ (m ++ r))
+        regrouped t f m r = simp append_assoc
 
-  pub adds_none : (next : Scene) (w : Option (List ℕ)) → scene_after rules refused (text ++ byte ∷ []) ≡ next → next.printed ≡ (scene_after rules refused text).printed
-      → Adds (replay_course rules) refused text refused (text ++ byte ∷ []) w w
-  adds_none next w is same = adds_all refused next w w is ([], same ∙ sym (append-nil (scene_after rules refused text).printed), Wrote-nothing w)
+    pub adds_none : (w : Option (List ℕ)) → next.printed ≡ (scene_after rules refused text).printed → Adds (task_of (Replay rules)) refused text refused' (text ++ byte ∷ []) w w
+    adds_none w same = adds_all w w ([], same ∙ sym (append-nil (scene_after rules refused text).printed), Wrote-nothing w)
 
 -- the line of a reply, as what is printed for it
 pub written_as : (n m : ℕ) (what : What) (u v : Option (List ℕ)) → n ≡ m → Wrote (reply_line n what) u v → Wrote (flat_map printed_text (Replied m what ∷ [])) u v

@@ -1,20 +1,16 @@
 -- What a replay makes of an input, byte after byte.
-use Rattle.std.specs.Prelude.{ℕ, Bool, true, false, ◌&&◌, List, fold, flat_map, length, Some, None, is_none}
-use Rattle.std.specs.Option.{option_map_or}
+use Rattle.std.specs.Prelude.{ℕ, Bool, true, false, ◌&&◌, List, fold, flat_map, length, is_none}
 use Rattle.std.specs.List.{enumerate_from, list_all}
-use Rattle.hk_base.specs.declared.plain.Trouble.TheVariants.{BadRecord}
 use Rattle.hk_base.specs.declared.plain.End.{End}
 use Rattle.hk_base.specs.declared.plain.End.TheVariants as ends
 use Rattle.hk_base.specs.declared.plain.OpEnd.{OpEnd}
 use Rattle.hk_base.specs.declared.plain.OpEnd.TheVariants as op_ends
 use Rattle.hk_spec_streams.specs.Blocks.{blocks}
 use Rattle.hk_spec_streams.specs.Station.{station_wrong}
-use Rattle.hk_spec_streams.specs.Records.{arrivals, input_met, open_record}
+use Rattle.hk_spec_streams.specs.Records.{arrivals}
 use Rattle.hk_spec_lines.specs.Lines.{printed_text, station_line}
-use Rattle.hk_spec_runs.specs.Desk.{Rules}
-use Rattle.hk_spec_runs.specs.Replay.{Listener, Scene, opening, arrived, summary, end_of}
-use Rattle.hk_spec_runs.specs.Outcome.{has_ended}
-use Rattle.hk_player.specs.Course.{Course}
+use Rattle.hk_spec_settings.specs.Settings.{Rules}
+use Rattle.hk_spec_runs.specs.Replay.{Listener, Scene, opening, arrived, end_of}
 use Rattle.hk_player.specs.declared.player.Taken.{Taken}
 use Rattle.hk_player.specs.declared.player.Taken.TheVariants as takens
 use Rattle.hk_station.specs.declared.station.Progress.{Progress}
@@ -24,15 +20,9 @@ use Rattle.hk_station.specs.declared.station.Progress.TheVariants.{Going, Over}
 abbrev pub scene_after : Rules → List ℕ → List ℕ → Scene
 scene_after rules refused text = fold (arrived rules refused) (opening rules) (arrivals text)
 
-abbrev pub replay_course : Rules → Course
-replay_course rules = record {
-  most = rules.bytes;
-  met = input_met rules.stations rules.bytes;
-  printed = λ refused text. flat_map printed_text (scene_after rules refused text).printed;
-  ending = λ text. option_map_or (λ r. Some (BadRecord r.place)) (open_record text) None;
-  finale = λ refused text. summary rules (scene_after rules refused text);
-  in_order = λ refused text. has_ended rules (scene_after rules refused text);
-}
+-- what is printed for these bytes
+abbrev pub printed_for : Rules → List ℕ → List ℕ → List ℕ
+printed_for rules refused text = flat_map printed_text (scene_after rules refused text).printed
 
 -- the summary lines of listeners, numbered from a number on
 abbrev pub listener_line : Rules → ℕ × Listener → List ℕ

@@ -1,6 +1,7 @@
 -- What a run holds of a scene.
 use Rattle.std.specs.Prelude.{◌≡◌, ⊤, ℕ, ◌+◌, List, [], ◌∷◌}
-use Rattle.hk_spec_runs.specs.Desk.{Rules, Desk}
+use Rattle.hk_spec_runs.specs.Desk.{Desk}
+use Rattle.hk_spec_settings.specs.Settings.{Rules}
 use Rattle.hk_spec_runs.specs.Replay.{Listener, Clerk, Scene}
 use Rattle.hk_probe.specs.Single.{shelf_of}
 use Rattle.hk_station.specs.Hearing.{IsHearing, number_of}

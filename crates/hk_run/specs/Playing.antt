@@ -1,14 +1,15 @@
 -- What a run has played, and what a step of it writes.
-use Rattle.std.specs.Prelude.{◌≡◌, ℕ, ◌≤◌, ◌<◌, ◌^◌, false, List, ◌++◌, length, flat_map, Option, None}
-use Rattle.hk_base.specs.Devices.{Wrote}
+use Rattle.std.specs.Prelude.{◌≡◌, ℕ, ◌≤◌, ◌<◌, ◌^◌, false, List, ◌++◌, length, flat_map, Option}
+use Rattle.hk_base.specs.Devices.{Wrote, WroteFront}
 use Rattle.hk_spec_streams.specs.Pieces.{is_one_of}
 use Rattle.hk_spec_streams.specs.Operator.{commands}
-use Rattle.hk_spec_streams.specs.Records.{input_fault}
 use Rattle.hk_spec_lines.specs.Lines.{Printed, printed_text}
-use Rattle.hk_spec_runs.specs.Desk.{Rules}
+use Rattle.hk_spec_settings.specs.Settings.{Rules}
+use Rattle.hk_spec_runs.specs.Outcome.{task_of}
 use Rattle.hk_spec_runs.specs.Replay.{Scene}
+use Rattle.hk_spec_runs.specs.Words.{Replay}
 use Rattle.hk_records.specs.Reader.{HasRead, limit_of, stations_of}
-use Rattle.hk_report.specs.Fronts.{WroteFront}
+use Rattle.hk_player.specs.Playing.{IsInForm}
 use Rattle.hk_run.specs.Course.{scene_after}
 use Rattle.hk_run.specs.Holding.{Holds}
 use Rattle.hk_run.specs.declared.run.Run.{Run}
@@ -27,8 +28,7 @@ pub record HasPlayed (rules : Rules) (run : Run) (refused text : List ℕ) : Typ
   pub read : HasRead run.reader text
   pub limit : limit_of run.reader ≡ rules.bytes
   pub stations : stations_of run.reader ≡ rules.stations
-  pub no_fault : input_fault rules.stations rules.bytes text ≡ None
-  pub within : length text ≤ rules.bytes
+  pub in_form : IsInForm (task_of (Replay rules)) text
   pub most : rules.bytes < 2 ^ 63
   pub holds : Holds rules run (scene_after rules refused text)
   pub settled : IsSettled rules refused text

@@ -1,7 +1,7 @@
 // Stations before their first byte.
 ghost use Rattle.std.specs.Prelude.{◌≡◌, ◌≤◌, IfOk, length, replicate};
 ghost use Rattle.hk_words.specs.Orders.{rules_meant, RulesFit};
-ghost use Rattle.hk_station.specs.Hearing.{unheard};
+ghost use Rattle.hk_spec_runs.specs.Listening.{unheard};
 ghost use Rattle.hk_run.specs.Holding.{AreHearing};
 
 use hk_base::NoMemory;

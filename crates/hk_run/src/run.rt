@@ -1,6 +1,6 @@
 // A run: stations and operator over one catalogue.
 ghost use Rattle.std.specs.Prelude.{◌≡◌, ◌≤◌, ◌<◌, ◌+◌, ◌⊎◌, ◌∷◌, [], None, ℕ, List, IfOk, IfSome, length};
-ghost use Rattle.hk_base.specs.Devices.{Rose};
+ghost use Rattle.hk_base.specs.Devices.{Counts};
 ghost use Rattle.hk_spec_streams.specs.Operator.{Command, Publish, commands};
 ghost use Rattle.hk_spec_streams.specs.Records.{ForStation};
 ghost use Rattle.hk_spec_runs.specs.Desk.{IsReply, after};
@@ -90,9 +90,7 @@ impl Run {
             × AddsScene scene (arrived rules refused scene (ForStation number byte)) (K.written out.old) (K.written out.new)) }
         ensures torn { result ≡ Taken.SinkFault → ForHeld self.old (λ rules scene. (refused : List ℕ) →
             AddsSceneFront scene (arrived rules refused scene (ForStation number byte)) (K.written out.old) (K.written out.new)) }
-        ensures cause { result ≡ Taken.SinkFault → Rose (K.faults out.old) (K.faults out.new) }
-        ensures never_falls { K.faults out.old ≤ K.faults out.new }
-        ensures counts_failures { (result ≡ Taken.SinkFault → ⊥) → K.faults out.new ≡ K.faults out.old }
+        ensures faults { Counts (result ≡ Taken.SinkFault) (K.faults out.old) (K.faults out.new) }
         ensures reader_stays { self.new.reader ≡ self.old.reader }
         ensures rules_stay { self.new.rules ≡ self.old.rules }
     {
@@ -141,10 +139,11 @@ impl Run {
 }
 
 impl Player for Run {
-    ghost use Rattle.hk_run.specs.Course.{replay_course};
+    ghost use Rattle.hk_spec_runs.specs.Outcome.{task_of};
+    ghost use Rattle.hk_spec_runs.specs.Words.{Replay};
     ghost use Rattle.hk_run.specs.Playing.{HasPlayed};
 
-    ghost course = { λ run. replay_course (rules_meant run.rules) };
+    ghost task = { λ run. task_of (Replay (rules_meant run.rules)) };
 
     ghost has_played = { λ run refused text. HasPlayed (rules_meant run.rules) run refused text };
 
@@ -183,5 +182,5 @@ impl Player for Run {
         }
     }
 
-    ghost in_form = { λ run refused text h. (h.no_fault, h.within, h.most) };
+    ghost in_form = { λ run refused text h. h.in_form };
 }

@@ -1,8 +1,8 @@
 // The stations' part of the summary.
-ghost use Rattle.std.specs.Prelude.{◌≡◌, ◌≤◌, List, OnOk, OnErr, IfOk};
-ghost use Rattle.hk_base.specs.Devices.{Wrote, Rose};
-ghost use Rattle.hk_report.specs.Fronts.{WroteFront};
-ghost use Rattle.hk_spec_runs.specs.Desk.{Rules};
+ghost use Rattle.std.specs.Prelude.{◌≡◌, List, OnOk, OnErr, IfOk};
+ghost use Rattle.hk_base.specs.Devices.{Rose};
+ghost use Rattle.hk_base.specs.Writing.{HasWritten, HasFailed};
+ghost use Rattle.hk_spec_settings.specs.Settings.{Rules};
 ghost use Rattle.hk_spec_runs.specs.Replay.{Listener};
 ghost use Rattle.hk_run.specs.Holding.{AreHearing, ForListeners};
 ghost use Rattle.hk_station.specs.Hearing.{ForEach, number_of};
@@ -14,11 +14,10 @@ use hk_station::Station;
 
 // Ends a station and writes its line. Answers whether it ended in order.
 fn write_end<K: Sink>(station: &mut Station, out: &mut K) -> Result<bool, Failed>
-    ensures whole { OnOk result (ForEach station.old (λ rules l. Wrote (listener_line rules (number_of station.old, l)) (K.written out.old) (K.written out.new))) }
+    ensures whole { OnOk result (ForEach station.old (λ rules l. HasWritten K.Sink (listener_line rules (number_of station.old, l)) out.old out.new)) }
     ensures ended { IfOk result (λ ended. ForEach station.old (λ rules l. ended ≡ is_in_order rules l)) }
-    ensures torn { OnErr result (ForEach station.old (λ rules l. WroteFront (listener_line rules (number_of station.old, l)) (K.written out.old) (K.written out.new))) }
+    ensures torn { OnErr result (ForEach station.old (λ rules l. HasFailed K.Sink (listener_line rules (number_of station.old, l)) out.old out.new)) }
     ensures cause { OnErr result (Rose (K.faults out.old) (K.faults out.new)) }
-    ensures never_falls { K.faults out.old ≤ K.faults out.new }
     ensures counts_failures { OnOk result (K.faults out.new ≡ K.faults out.old) }
 {
     let blocks = station.blocks();
@@ -39,11 +38,10 @@ fn is_ended(end: End) -> bool
 
 /// Ends the stations one after another and writes a line for each. Answers whether all of them ended in order.
 pub fn write_stations<K: Sink>(stations: &mut [Station], out: &mut K) -> Result<bool, Failed>
-    ensures whole { OnOk result (ForListeners stations.old (λ rules listeners. Wrote (station_lines rules listeners) (K.written out.old) (K.written out.new))) }
+    ensures whole { OnOk result (ForListeners stations.old (λ rules listeners. HasWritten K.Sink (station_lines rules listeners) out.old out.new)) }
     ensures ended { IfOk result (λ ended. ForListeners stations.old (λ rules listeners. ended ≡ all_ended rules listeners)) }
-    ensures torn { OnErr result (ForListeners stations.old (λ rules listeners. WroteFront (station_lines rules listeners) (K.written out.old) (K.written out.new))) }
+    ensures torn { OnErr result (ForListeners stations.old (λ rules listeners. HasFailed K.Sink (station_lines rules listeners) out.old out.new)) }
     ensures cause { OnErr result (Rose (K.faults out.old) (K.faults out.new)) }
-    ensures never_falls { K.faults out.old ≤ K.faults out.new }
     ensures counts_failures { OnOk result (K.faults out.new ≡ K.faults out.old) }
 {
     let mut all_ended = true;

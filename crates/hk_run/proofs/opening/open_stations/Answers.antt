@@ -3,7 +3,7 @@ use Rattle.std.specs.Prelude.{replicate}
 use Rattle.std.proofs.lemmas.List.{length-replicate}
 use Rattle.hk_spec_runs.specs.Replay.{Listener}
 use Rattle.hk_words.specs.Orders.{rules_meant}
-use Rattle.hk_station.specs.Hearing.{unheard}
+use Rattle.hk_spec_runs.specs.Listening.{unheard}
 use Rattle.hk_station.specs.declared.station.Station.{Station}
 use Rattle.hk_run.specs.Holding.{AreHearing, Numbered}
 use Rattle.hk_run.proofs.Stations.{joined, all_of}

@@ -1,7 +1,7 @@
 use Rattle.std.proofs.Common.{◌≤◌, [], length, refl, sym, ap, arith}
 use Rattle.hk_front.specs.Hearing.{channels_of, factor_of}
 use Rattle.hk_printer.proofs.Growing.{silent}
-use Rattle.hk_printer.proofs.Limits.{no_fault}
+use Rattle.hk_printer.proofs.Limits.{form_within}
 use Rattle.hk_printer.proofs.printer.Printer.new.Goals as goal
 
 pub returns-clause-new : goal.returns-clause-new
@@ -12,7 +12,7 @@ returns-clause-new c =
       some_factor = omega (arith, c.start.ensures.factor, c.requires.some_factor);
       heard = c.start.ensures.taken;
       taken = refl;
-      in_form = no_fault (record { channels = channels_of c.start.new.self; factor = factor_of c.start.new.self; flips = c.start.new.self.flips; bytes = c.args.limit }) [] (omega arith);
+      in_form = form_within (record { channels = channels_of c.start.new.self; factor = factor_of c.start.new.self; flips = c.start.new.self.flips; bytes = c.args.limit }) [] (omega arith) c.requires.limit;
       within = omega arith;
       most = c.requires.limit;
       lines = sym (ap length (silent c.start.new.self.flips (channels_of c.start.new.self) (factor_of c.start.new.self) channels));

@@ -23,14 +23,13 @@ returns-clause-going g c = λ is rules scene h refused.
     let inside : c.args.number < length c.args.self.now.stations.items = omega (arith, c.if-number-len.false) in
     let there : slice_get c.args.self.now.stations.items c.args.number ≡ Some c.index_mut-station.result.now = slice_get_read _ _ _ _ refl inside c.index_mut-station.ensures.value in
     let at = found rules 0 c.args.self.now.stations.items scene.listeners c.args.number station h.hears there in
-    let told = sym c.taken_of.ensures ∙ is in
-    let versions = c.hear.ensures.still_version refl in
-    let songs = c.hear.ensures.still_songs refl in
-    let shelf = same_shelf _ _ (c.hear.ensures.still_shelf refl) in (
-      holds_heard rules scene c.args.self.now c.args.number c.args.byte station h at c.hear.new.view versions songs shelf refused c.hear.new.self _ refl refl refl c.hear.ensures.number_stays
-          (going_on c.hear.result _ told c.hear.ensures.hears rules at.listener at.hears),
-      adds_lines rules scene c.args.self.now c.args.number c.args.byte station h at c.hear.new.view versions songs shelf refused (g.K.Sink.written c.args.out.now) (g.K.Sink.written c.hear.new.log)
-          (going_on c.hear.result _ told c.hear.ensures.whole rules at.listener at.hears),
+    let heard = going_on c.hear.result _ (sym c.taken_of.ensures ∙ is) c.hear.ensures.heard in
+    let hears = heard.hears rules at.listener at.hears in
+    let stays = heard.looks.stays refl in (
+      holds_heard rules scene c.args.self.now c.args.number c.args.byte station h at c.hear.new.view stays.at stays.songs (same_shelf _ _ stays.shelf) refused c.hear.new.self _ refl refl refl
+          heard.number hears.0,
+      adds_lines rules scene c.args.self.now c.args.number c.args.byte station h at c.hear.new.view stays.at stays.songs (same_shelf _ _ stays.shelf) refused _
+          (g.K.Sink.written c.args.out.now) (g.K.Sink.written c.hear.new.log) hears.1.lines heard.writes.appended,
     )
 
 pub returns-clause-torn : goal.returns-clause-torn
@@ -39,13 +38,11 @@ returns-clause-torn g c = λ is rules scene h refused.
     let inside : c.args.number < length c.args.self.now.stations.items = omega (arith, c.if-number-len.false) in
     let there : slice_get c.args.self.now.stations.items c.args.number ≡ Some c.index_mut-station.result.now = slice_get_read _ _ _ _ refl inside c.index_mut-station.ensures.value in
     let at = found rules 0 c.args.self.now.stations.items scene.listeners c.args.number station h.hears there in
-    let told = sym c.taken_of.ensures ∙ is in
     let going = no_end station.end _ c.end.ensures (sym c.is_some.ensures ∙ c.if-is_some.false) in
-    let versions = c.hear.ensures.still_version refl in
-    let songs = c.hear.ensures.still_songs refl in
-    let shelf = same_shelf _ _ (c.hear.ensures.still_shelf refl) in
-    adds_front rules scene c.args.self.now c.args.number c.args.byte station h at c.hear.new.view versions songs shelf refused (g.K.Sink.written c.args.out.now) (g.K.Sink.written c.hear.new.log)
-    (torn_off c.hear.result _ told (c.hear.ensures.torn going) rules at.listener at.hears)
+    let torn = torn_off c.hear.result _ (sym c.taken_of.ensures ∙ is) (c.hear.ensures.torn going) in
+    let stays = torn.looks.stays refl in
+    adds_front rules scene c.args.self.now c.args.number c.args.byte station h at c.hear.new.view stays.at stays.songs (same_shelf _ _ stays.shelf) refused _
+    (g.K.Sink.written c.args.out.now) (g.K.Sink.written c.hear.new.log) (torn.hears rules at.listener at.hears).lines torn.fails.front
 
 pub returns-then-number-len-clause-going : goal.returns-then-number-len-clause-going
 returns-then-number-len-clause-going g c = λ is rules scene h refused.
@@ -53,5 +50,10 @@ returns-then-number-len-clause-going g c = λ is rules scene h refused.
     let same = absent rules refused scene c.args.self.now.stations.items c.args.number c.args.byte h.hears past in
     (rw same (record { hears = h.hears; obeys = h.obeys }), rw same (adds_nothing scene (g.K.Sink.written c.args.out.now)))
 
-pub returns-clause-counts_failures : goal.returns-clause-counts_failures
-returns-clause-counts_failures g c = λ never. no_write_failed c.hear.result _ (λ torn. never (c.taken_of.ensures ∙ torn)) c.hear.ensures.counts_failures
+pub returns-clause-faults : goal.returns-clause-faults
+returns-clause-faults g c =
+    let going = no_end c.index_mut-station.result.now.end _ c.end.ensures (sym c.is_some.ensures ∙ c.if-is_some.false) in
+    record {
+      cause = λ is. (torn_off c.hear.result _ (sym c.taken_of.ensures ∙ is) (c.hear.ensures.torn going)).fails.cause;
+      stays = λ never. (no_write_failed c.hear.result _ (λ torn. never (c.taken_of.ensures ∙ torn)) c.hear.ensures.heard).writes.stays;
+    }
