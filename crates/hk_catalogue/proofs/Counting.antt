@@ -1,10 +1,10 @@
 -- How many words pass a test, in the slots and in the map, with one song more and with one less.
-use Rattle.std.proofs.Common.{◌≡◌, ℕ, ◌+◌, ◌<◌, Bool, List, [], length, map, set, get_or, refl, sym, ap, ◌∙◌, arith, Option, Some, None, option_map}
-use Rattle.std.specs.List.{count_by, sum_by, insert, remove}
+use Rattle.std.proofs.Common.{◌≡◌, ℕ, ◌<◌, List, [], length, set, get_or, refl, ap, ◌∙◌, arith, Option, Some, None, option_map}
+use Rattle.std.specs.List.{count_by, insert, remove}
 use Rattle.std.specs.Option.{option_map_or}
 use Rattle.std.proofs.lemmas.List.{length-map, get_or-map}
 use Rattle.std.proofs.lemmas.List.Sums.{sum_by-insert, sum_by-remove}
-use Rattle.hk_spec_matching.specs.Catalogue.{Song, Songs}
+use Rattle.hk_spec_matching.specs.Catalogue.{Song}
 use Rattle.hk_spec_matching.specs.Cost as cost
 use Rattle.hk_table.specs.Store.{Store, Track, song_at, with_song_at, without_song_at}
 use Rattle.hk_table.specs.Index.{Index, words_in, all_words, slot_at, index_of}
@@ -32,10 +32,17 @@ counted-insert old new slot place track index more put low empty grown counted p
     let none : count_by p (words_in (slot_at (index_of old) slot)) ≡ 0 = ap (count_by p) (slot_words old slot ∙ ap (λ t. option_map_or (λ (song : Track). song.words) t []) empty) in
     let slots : count_by p (all_words (index_of new).slots) ≡ count_by p (all_words (set (index_of old).slots slot (Some track.words))) =
     ap (λ (x : Index). count_by p (all_words x.slots)) (ap index_of put ∙ index-put old slot track) in
-    omega (arith, slots, count-set p (index_of old).slots slot (Some track.words) (slot_there old slot low), none, counted p,
-    ap (λ songs. count_by p (cost.all_words songs)) grown,
-    count_by-flat_map p words (insert (songs_in old index) place (track.id, song_of track.words)), count_by-flat_map p words (songs_in old index),
-    sum_by-insert (λ e. count_by p (words e)) (songs_in old index) place (track.id, song_of track.words))
+    omega (
+      arith,
+      slots,
+      count-set p (index_of old).slots slot (Some track.words) (slot_there old slot low),
+      none,
+      counted p,
+      ap (λ songs. count_by p (cost.all_words songs)) grown,
+      count_by-flat_map p words (insert (songs_in old index) place (track.id, song_of track.words)),
+      count_by-flat_map p words (songs_in old index),
+      sum_by-insert (λ e. count_by p (words e)) (songs_in old index) place (track.id, song_of track.words),
+    )
 
 pub counted-remove : (old new : Store) (place : ℕ) (e : ℕ × ℕ) (index less : List (ℕ × ℕ)) → new ≡ without_song_at old e.1 → e.1 < length old.slots
     → place < length index → get_or index place e ≡ e → songs_in new less ≡ remove (songs_in old index) place → AreCounted old index → AreCounted new less
@@ -44,8 +51,15 @@ counted-remove old new place e index less cleared low within is left counted p =
     let here : get_or (songs_in old index) place (entry_in old e) ≡ entry_in old e = get_or-map (entry_in old) index place e (entry_in old e) within ∙ ap (entry_in old) is in
     let slots : count_by p (all_words (index_of new).slots) ≡ count_by p (all_words (set (index_of old).slots e.1 None)) =
     ap (λ (x : Index). count_by p (all_words x.slots)) (ap index_of cleared ∙ index-clear old e.1) in
-    omega (arith, slots, count-set p (index_of old).slots e.1 None (slot_there old e.1 low), ap (count_by p) (slot_words old e.1), counted p,
-    ap (λ songs. count_by p (cost.all_words songs)) left,
-    count_by-flat_map p words (remove (songs_in old index) place), count_by-flat_map p words (songs_in old index),
-    sum_by-remove (λ e. count_by p (words e)) (songs_in old index) place (entry_in old e) (omega (arith, within, length-songs old index)),
-    ap (λ s. count_by p (words s)) here)
+    omega (
+      arith,
+      slots,
+      count-set p (index_of old).slots e.1 None (slot_there old e.1 low),
+      ap (count_by p) (slot_words old e.1),
+      counted p,
+      ap (λ songs. count_by p (cost.all_words songs)) left,
+      count_by-flat_map p words (remove (songs_in old index) place),
+      count_by-flat_map p words (songs_in old index),
+      sum_by-remove (λ e. count_by p (words e)) (songs_in old index) place (entry_in old e) (omega (arith, within, length-songs old index)),
+      ap (λ s. count_by p (words s)) here,
+    )

@@ -139,10 +139,16 @@ fn words_are_found_where_their_songs_are(rt: HostRuntime) -> Result<(), AllocErr
         panic!(rt; "no song");
     };
     assert_eq!(rt; places_in::<Brand>(&catalogue, 5, slot, Blank::new(1)), 256);
-    assert_eq!(rt; places_in::<Brand>(&catalogue, 6, other, Blank::new(1)), 344);
+    assert_eq!(rt;
+        places_in::<Brand>(&catalogue, 6, other, Blank::new(1)),
+        344
+    );
     catalogue.absorb(&Edit::Withdraw(7));
     assert_eq!(rt; places_in::<Brand>(&catalogue, 5, slot, Blank::new(1)), 0);
-    assert_eq!(rt; places_in::<Brand>(&catalogue, 6, other, Blank::new(1)), 344);
+    assert_eq!(rt;
+        places_in::<Brand>(&catalogue, 6, other, Blank::new(1)),
+        344
+    );
     Ok(())
 }
 

@@ -5,7 +5,7 @@ use Rattle.hk_base.specs.declared.plain.OpEnd.{OpEnd}
 use Rattle.hk_base.specs.declared.plain.OpEnd.TheVariants as ends
 use Rattle.hk_base.specs.declared.plain.WireFault.{WireFault}
 use Rattle.hk_spec_streams.specs.Pieces.{completed}
-use Rattle.hk_spec_streams.specs.Operator.{Command, AddWords, OpenSong, Audio, Close, Withdraw, Publish, operator_met, operator_fault, commands}
+use Rattle.hk_spec_streams.specs.Operator.{Command, Publish, operator_met, operator_fault, commands}
 use Rattle.hk_spec_runs.specs.Desk.{Desk, Recording, IsReply, after}
 use Rattle.hk_spec_settings.specs.Settings.{Rules}
 use Rattle.hk_spec_runs.specs.Replay.{Clerk}
@@ -82,11 +82,7 @@ end_in (Published number) = None
 
 abbrev pub is_publish : Command → Bool
 is_publish Publish = true
-is_publish (AddWords id words) = false
-is_publish (OpenSong id form) = false
-is_publish (Audio bytes) = false
-is_publish Close = false
-is_publish (Withdraw id) = false
+is_publish command = false
 
 -- A command's reply is given with its number, and what the definitions leave of the desk is left. A publish is handed out with its
 -- number, and leaves the desk as it is. Where no command ends nothing is given, and the desk stays.

@@ -4,8 +4,8 @@ use Rattle.hk_base.specs.declared.plain.Form.{Form}
 use Rattle.hk_spec_sound.specs.Prints.{full_analysis}
 use Rattle.hk_spec_sound.specs.Limits.{CHANNELS, FACTORS}
 use Rattle.hk_spec_streams.specs.Pieces.{is_one_of}
-use Rattle.hk_spec_streams.specs.Commands.{Content, Words, SoundForm, Sound, Nothing, content_of}
-use Rattle.hk_spec_streams.specs.Operator.{Command, AddWords, OpenSong, Audio, Close, Withdraw, Publish}
+use Rattle.hk_spec_streams.specs.Commands.{Content, Sound, content_of}
+use Rattle.hk_spec_streams.specs.Operator.{Command, Audio}
 use Rattle.hk_spec_matching.specs.Matching.{MOST_ERRORS}
 use Rattle.hk_spec_runs.specs.Desk.{Recording, recorded_words}
 use Rattle.hk_spec_settings.specs.Settings.{Rules}
@@ -37,17 +37,11 @@ sound_in (parts.Form form) = []
 
 abbrev pub sound_of : Command → List ℕ
 sound_of (Audio bytes) = bytes
-sound_of (AddWords id words) = []
-sound_of (OpenSong id form) = []
-sound_of Close = []
-sound_of (Withdraw id) = []
-sound_of Publish = []
+sound_of command = []
 
 abbrev pub sound_if : Content → List ℕ → List ℕ
 sound_if Sound payload = payload
-sound_if Words payload = []
-sound_if SoundForm payload = []
-sound_if Nothing payload = []
+sound_if content payload = []
 
 abbrev pub sound_there : List ℕ → List ℕ
 sound_there bytes = sound_if (content_of (slice_index bytes 0)) (drop 5 bytes)

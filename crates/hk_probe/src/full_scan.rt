@@ -15,6 +15,7 @@ use std::sync::ledger::Ledger;
 
 /// Leaves the matches of the ring's last 256 prints in the catalogue's songs, by id and then by start. It reads each window
 /// of each song, at a tick for each word.
+#[inline(never)]
 pub fn scan<L: Ledger>(
     catalogue: &Catalogue,
     ring: &BlockRing,

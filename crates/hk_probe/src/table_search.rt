@@ -18,6 +18,7 @@ use std::sync::ledger::Ledger;
 
 /// Leaves the matches of the ring's last 256 prints in the catalogue's songs, by id and then by start. It visits the nodes in
 /// the buckets of the words that are looked up, and reads one window at most for each, at a tick for each node and each word.
+#[inline(never)]
 pub fn look<L: Ledger>(
     catalogue: &Catalogue,
     ring: &BlockRing,

@@ -8,7 +8,7 @@ use Rattle.hk_spec_streams.specs.Station.{fences, station_met}
 use Rattle.hk_spec_streams.specs.Blocks.{Block, blocks}
 use Rattle.hk_spec_streams.proofs.NextFault.{fault_of-before}
 use Rattle.hk_spec_streams.proofs.FirstFault.{fault_of-append}
-use Rattle.hk_spec_runs.specs.Desk.{Rules}
+use Rattle.hk_spec_settings.specs.Settings.{Rules}
 use Rattle.hk_station_wire.specs.declared.item.Item.{Item}
 use Rattle.hk_station_wire.specs.declared.item.Item.TheVariants as item
 use Rattle.hk_station_wire.specs.Taken as wires

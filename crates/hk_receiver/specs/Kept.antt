@@ -4,7 +4,7 @@ use Rattle.hk_spec_sound.specs.Prints.{full_analysis}
 use Rattle.hk_spec_streams.specs.Station.{segments}
 use Rattle.hk_station_wire.specs.LastPacket.{gap_is_open}
 use Rattle.hk_spec_streams.specs.Blocks.{Setting}
-use Rattle.hk_spec_runs.specs.Desk.{Rules}
+use Rattle.hk_spec_settings.specs.Settings.{Rules}
 use Rattle.hk_station_wire.specs.Says.{heard_form}
 use Rattle.hk_block.specs.Ring.{BLOCK_SIZE, MOST_PRINTS}
 use Rattle.hk_receiver.specs.declared.segment.Segment.{Segment}

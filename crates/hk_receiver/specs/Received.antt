@@ -2,7 +2,7 @@
 use Rattle.std.specs.Prelude.{◌≡◌, ℕ, List, [], ◌∷◌, ◌++◌, map, length, None, Some}
 use Rattle.hk_spec_streams.specs.Station.{Fence, station_fault, station_met, fences}
 use Rattle.hk_spec_streams.specs.Blocks.{Block, blocks}
-use Rattle.hk_spec_runs.specs.Desk.{Rules}
+use Rattle.hk_spec_settings.specs.Settings.{Rules}
 use Rattle.hk_station_wire.specs.Taken as wires
 use Rattle.hk_block.specs.Ring.{Ring}
 use Rattle.hk_receiver.specs.declared.receiver.Receiver.{Receiver}

@@ -2,7 +2,7 @@
 ghost use Rattle.std.specs.Prelude.{◌≡◌, ◌≤◌, ◌<◌, ◌+◌, ◌-◌, ◌^◌, [], ℕ, List, IfOk, IsTrue, true, if◌then◌else◌};
 ghost use Rattle.std.specs.Result.{result_err};
 ghost use Rattle.hk_spec_streams.specs.Station.{station_wrong};
-ghost use Rattle.hk_spec_runs.specs.Desk.{Rules};
+ghost use Rattle.hk_spec_settings.specs.Settings.{Rules};
 ghost use Rattle.hk_station_wire.specs.Taken.{limit_of, taken_of};
 ghost use Rattle.hk_block.specs.Ring.{is_full};
 ghost use Rattle.hk_receiver.specs.Segment.{ring_in, number_of};

@@ -1,4 +1,4 @@
-use Rattle.std.proofs.Common.{◌≡◌, ◌==◌, ℕ, sym, ap, ◌∙◌, subst}
+use Rattle.std.proofs.Common.{◌==◌, ℕ, ap, ◌∙◌, subst}
 use Rattle.std.specs.List.{count_by}
 use Rattle.hk_spec_matching.specs.Buckets.{bucket_of}
 use Rattle.hk_spec_matching.specs.Cost.{all_words}
