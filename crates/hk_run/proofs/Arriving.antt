@@ -40,6 +40,13 @@ if_operator (ForStation l d) None true c is = cc
 if_operator (ForOperator d) None true c is = (refl, cc)
 if_operator a None false c is = cc
 
+if_bad : (a : Arrival) (met : Option Trouble) (t : Bool) (trouble : Trouble) → came_of a met t ≡ came.Bad trouble → met ≡ Some trouble
+unfolding came_of
+if_bad a (Some other) t trouble is = cc
+if_bad (ForStation k c) None true trouble is = cc
+if_bad (ForOperator c) None true trouble is = cc
+if_bad a None false trouble is = cc
+
 pub scene_after-append : (rules : Rules) (refused text : List ℕ) (b : ℕ)
     → scene_after rules refused (text ++ b ∷ []) ≡ fold (arrived rules refused) (scene_after rules refused text) (arrival_after (open_bytes text) b)
 scene_after-append rules refused text b =
@@ -75,3 +82,6 @@ module _ (rules : Rules) (text : List ℕ) (b : ℕ) where
   came_operator c is =
       let found = if_operator _ _ _ c (sym came_is ∙ is) in
       (found.0, λ refused. scene_is refused (ForOperator c ∷ []) found.1)
+
+  pub came_bad : (trouble : Trouble) → came_at rules.stations rules.bytes (text ++ b ∷ []) ≡ came.Bad trouble → input_met rules.stations rules.bytes (text ++ b ∷ []) ≡ Some trouble
+  came_bad trouble is = if_bad _ _ _ trouble (sym came_is ∙ is)

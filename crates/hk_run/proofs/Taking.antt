@@ -1,21 +1,24 @@
 -- A byte of the input: what it leaves of what was played.
-use Rattle.std.proofs.Common.{◌≡◌, ℕ, ◌≤◌, List, [], ◌∷◌, ◌++◌, length, refl, sym, ◌∙◌, ap, subst, arith, append-nil, append_assoc, Option, None}
+use Rattle.std.proofs.Common.{◌≡◌, ℕ, ◌≤◌, List, [], ◌∷◌, ◌++◌, length, refl, sym, ◌∙◌, ap, subst, arith, append-nil, append_assoc, Option, Some, None}
 use Rattle.std.specs.Prelude.{flat_map}
+use Rattle.std.specs.Option.{option_or, option_map_or}
+use Rattle.hk_base.specs.declared.plain.Trouble.{Trouble}
+use Rattle.hk_base.specs.declared.plain.Trouble.TheVariants.{BadRecord}
 use Rattle.std.proofs.lemmas.List.Concat.{flat_map-append}
 use Rattle.hk_base.specs.Devices.{Wrote, WroteFront}
-use Rattle.hk_spec_streams.specs.Records.{input_met}
+use Rattle.hk_spec_streams.specs.Records.{input_met, open_record}
 use Rattle.hk_spec_streams.proofs.FirstFault.{fault_of-none}
 use Rattle.hk_base.specs.declared.plain.What.{What}
 use Rattle.hk_spec_lines.specs.Lines.{Printed, Replied, printed_text, reply_line}
 use Rattle.hk_spec_settings.specs.Settings.{Rules}
 use Rattle.hk_spec_runs.specs.Outcome.{task_of}
-use Rattle.hk_spec_runs.specs.Replay.{Scene}
+use Rattle.hk_spec_runs.specs.Replay.{Scene, scene_of}
 use Rattle.hk_spec_runs.specs.Words.{Replay}
 use Rattle.hk_records.specs.Reader.{HasRead, came_at, limit_of, stations_of}
 use Rattle.hk_records.specs.declared.reader.Came.{Came}
 use Rattle.hk_records.specs.declared.reader.RecordReader.{RecordReader}
 use Rattle.hk_base.proofs.Taking.{Wrote-nothing}
-use Rattle.hk_player.specs.Playing.{Adds, TearsBehind}
+use Rattle.hk_player.specs.Playing.{Adds, TearsBehind, StopsBehind}
 use Rattle.hk_words.specs.Orders.{rules_meant}
 use Rattle.hk_words.specs.declared.order.RunRules.{RunRules}
 use Rattle.hk_run.specs.Course.{scene_after, printed_for}
@@ -23,6 +26,7 @@ use Rattle.hk_run.specs.Holding.{Holds}
 use Rattle.hk_run.specs.Playing.{HasPlayed, IsSettled, AddsScene, AddsSceneFront}
 use Rattle.hk_run.specs.declared.run.Run.{Run}
 use Rattle.hk_run.proofs.Printing.{goes}
+use Rattle.hk_run.proofs.Seen.{stops-fault, stops-seen}
 use Rattle.hk_run.proofs.Tasks.{text_is}
 
 -- a run with the same parts holds the same
@@ -86,6 +90,16 @@ module _ (rules : Rules) (run : Run) (refused text : List ℕ) (byte : ℕ) (h :
 
     pub adds_none : (w : Option (List ℕ)) → next.printed ≡ (scene_after rules refused text).printed → Adds (task_of (Replay rules)) refused text refused' (text ++ byte ∷ []) w w
     adds_none w same = adds_all w w ([], same ∙ sym (append-nil (scene_after rules refused text).printed), Wrote-nothing w)
+
+  -- a bad byte stops the run, whatever follows it
+  pub stops : (trouble : Trouble) → input_met rules.stations rules.bytes (text ++ byte ∷ []) ≡ Some trouble → StopsBehind (task_of (Replay rules)) refused text byte trouble
+  unfolding scene_of
+  stops trouble meets more =
+      let met = input_met rules.stations rules.bytes in
+      let fault = stops-fault met text byte more trouble h.in_form.no_fault meets in (
+        record { met = fault; wrong = ap (λ f. option_or f (option_map_or (λ r. Some (BadRecord r.place)) (open_record (text ++ byte ∷ more)) None)) fault; },
+        ap (printed_for rules refused) (stops-seen met text byte more trouble h.in_form.no_fault meets) ∙ sym (text_is rules refused text h.in_form.no_fault),
+      )
 
 -- the line of a reply, as what is printed for it
 pub written_as : (n m : ℕ) (what : What) (u v : Option (List ℕ)) → n ≡ m → Wrote (reply_line n what) u v → Wrote (flat_map printed_text (Replied m what ∷ [])) u v

@@ -1,5 +1,5 @@
 -- What a run prints, by what the command to replay asks for.
-use Rattle.std.proofs.Common.{◌≡◌, [], ℕ, List, ◌++◌, refl, ap, None}
+use Rattle.std.proofs.Common.{◌≡◌, [], ℕ, List, ◌++◌, refl, ◌∙◌, ap, None}
 use Rattle.hk_spec_streams.specs.Pieces.{pieces_within, seen_of}
 use Rattle.hk_spec_streams.specs.Records.{arrivals, input_met}
 use Rattle.hk_spec_settings.specs.Settings.{Rules}
@@ -7,6 +7,7 @@ use Rattle.hk_spec_runs.specs.Outcome.{task_of, has_ended}
 use Rattle.hk_spec_runs.specs.Replay.{scene_of, replay, summary}
 use Rattle.hk_spec_runs.specs.Words.{Replay}
 use Rattle.hk_run.specs.Course.{scene_after, printed_for}
+use Rattle.hk_records.proofs.Reading.{no_text}
 use Rattle.hk_run.proofs.Seen.{seen_whole}
 
 module _ (rules : Rules) (refused text : List ℕ) (fine : (task_of (Replay rules)).met text ≡ None) where
@@ -27,6 +28,9 @@ module _ (rules : Rules) (refused text : List ℕ) (fine : (task_of (Replay rule
   ended_is = seen_is (λ t. has_ended rules (scene_after rules refused t))
 
 -- nothing is printed for no byte
+nothing_after : (rules : Rules) → printed_for rules [] [] ≡ []
+unfolding arrivals pieces_within
+nothing_after rules = refl
+
 pub nothing_printed : (rules : Rules) → (task_of (Replay rules)).text [] [] ≡ []
-unfolding scene_of arrivals pieces_within
-nothing_printed rules = refl
+nothing_printed rules = text_is rules [] [] (no_text rules.stations rules.bytes) ∙ nothing_after rules

@@ -1,4 +1,4 @@
-use Rattle.std.proofs.Common.{sym, ap, ◌∙◌, ◌&&◌, subst}
+use Rattle.std.proofs.Common.{length, sym, ap, ◌∙◌, ◌&&◌, subst}
 use Rattle.hk_base.specs.Writing.{HasWritten, HasFailed}
 use Rattle.hk_base.proofs.Writing.{written-append, failed_within, failed_behind}
 use Rattle.hk_words.specs.Orders.{rules_meant}

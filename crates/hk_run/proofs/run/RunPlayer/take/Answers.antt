@@ -4,9 +4,9 @@ use Rattle.hk_spec_lines.specs.Lines.{Replied}
 use Rattle.hk_spec_runs.specs.Replay.{Scene}
 use Rattle.hk_words.specs.Orders.{rules_meant}
 use Rattle.hk_run.specs.Course.{scene_after}
-use Rattle.hk_run.proofs.Arriving.{came_head, came_station, came_operator}
+use Rattle.hk_run.proofs.Arriving.{came_head, came_station, came_operator, came_bad}
 use Rattle.hk_run.proofs.Settling.{head_settled, station_settled, quiet_is, quiet_settled, reply_settled}
-use Rattle.hk_run.proofs.Taking.{held_by, came_is, plays_on, adds_all, adds_some, adds_none, written_as, front_as, by_rules}
+use Rattle.hk_run.proofs.Taking.{held_by, came_is, plays_on, stops, adds_all, adds_some, adds_none, written_as, front_as, by_rules}
 use Rattle.hk_run.proofs.run.RunPlayer.take.Goals as goal
 
 pub returns-in-Head-clause-going : goal.returns-in-Head-clause-going
@@ -100,3 +100,10 @@ returns-in-Err-clause-torn g c = λ is refused text h.
       refl,
       front_as _ _ c.in-Some.reply.what _ _ told.2 c.in-Err.ensures.torn.front,
     )
+
+pub returns-in-Bad-clause-stopped : goal.returns-in-Bad-clause-stopped
+returns-in-Bad-clause-stopped g c = λ refused text h.
+    let rules = rules_meant c.args.self.now.rules in
+    let run = c.args.self.now in
+    let byte : ℕ = c.args.byte in
+    stops rules run refused text byte h c.in-Bad.trouble (came_bad rules text byte _ (came_is rules run refused text byte h _ (c.in-Bad.ensures.came text h.read)))
