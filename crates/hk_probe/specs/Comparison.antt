@@ -4,7 +4,7 @@ use Rattle.std.specs.List.{position_or_len}
 use Rattle.hk_base.specs.declared.plain.Print.{Print}
 use Rattle.hk_base.specs.declared.plain.Match.{Match}
 use Rattle.hk_spec_matching.specs.Catalogue.{Song}
-use Rattle.hk_spec_matching.specs.Matching.{Query, match_at, is_hit, errors_of, MOST_ERRORS}
+use Rattle.hk_spec_matching.specs.Matching.{Query, match_at, is_hit, errors_of, MOST_ERRORS, query_for}
 use Rattle.hk_catalogue.specs.Shelves.{song_of}
 
 -- the first print that hits, and the number of prints where none does
