@@ -2,7 +2,7 @@
 use Rattle.std.specs.Prelude.{◌≡◌, ℕ, ◌*◌, List, [], ◌∷◌, ◌++◌, Bool, IsTrue, Option, Some, option_map}
 use Rattle.hk_base.specs.declared.plain.Match.{Match}
 use Rattle.hk_spec_matching.specs.Catalogue.{Songs, Edit, Limits, Rise}
-use Rattle.hk_spec_matching.specs.Matching.{Query, matches}
+use Rattle.hk_spec_matching.specs.Matching.{Query, query_for, matches}
 use Rattle.hk_spec_matching.specs.Cost.{cost}
 use Rattle.hk_block.specs.Ring.{Ring}
 
@@ -74,7 +74,7 @@ pub record Looks (answers : List ℕ) (old new : LookerView) : Type 0 where
 
 -- what is looked up of a ring: its prints
 abbrev pub query_of : Ring → Query
-query_of ring = record { prints = ring.last }
+query_of ring = query_for ring.last
 
 -- the matches of the ring's prints in songs
 abbrev pub matches_in : Ring → Songs → List Match

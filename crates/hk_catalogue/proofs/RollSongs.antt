@@ -11,7 +11,8 @@ use Rattle.hk_base.specs.declared.plain.Reason.{Reason}
 use Rattle.hk_base.specs.declared.plain.Reason.TheVariants as reason
 use Rattle.hk_spec_streams.specs.Pieces.{first_that_holds}
 use Rattle.hk_spec_matching.specs.Catalogue.{Song, Songs, Limits, has_song, with_song, without_song, positions_of, has_room}
-use Rattle.hk_spec_runs.specs.Desk.{Rules, add_refusals}
+use Rattle.hk_spec_settings.specs.Refusals.{add_refusals}
+use Rattle.hk_spec_settings.specs.Settings.{Rules}
 use Rattle.hk_catalogue.specs.Refusals.{Lengths, lengths_of, has_id, words_in, free, add_tests, answered, reason_of}
 use Rattle.hk_catalogue.specs.Register.{Register, refusal, noted, songs_after, Counts, AreRulesOf}
 use Rattle.hk_catalogue.specs.declared.refused.Refused.{Refused}

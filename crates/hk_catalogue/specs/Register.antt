@@ -5,7 +5,7 @@ use Rattle.std.specs.FinMap.{put}
 use Rattle.hk_spec_streams.specs.Pieces.{first_that_holds}
 use Rattle.hk_spec_matching.specs.Catalogue as edits
 use Rattle.hk_spec_matching.specs.Catalogue.{Songs, Limits, edited}
-use Rattle.hk_spec_runs.specs.Desk.{Rules}
+use Rattle.hk_spec_settings.specs.Settings.{Rules}
 use Rattle.hk_catalogue.specs.Refusals.{Lengths, lengths_of, add_tests, withdraw_tests, seal_tests}
 use Rattle.hk_catalogue.specs.declared.refused.Refused.{Refused}
 use Rattle.hk_catalogue.specs.declared.edit.Edit.{Edit}

@@ -4,7 +4,8 @@ ghost use Rattle.std.specs.Ordering.{nat_cmp};
 ghost use Rattle.std.specs.FinMap.{put};
 ghost use Rattle.hk_spec_streams.specs.Pieces.{first_that_holds};
 ghost use Rattle.hk_spec_matching.specs.Catalogue.{Songs, has_song};
-ghost use Rattle.hk_spec_runs.specs.Desk.{Rules, add_refusals};
+ghost use Rattle.hk_spec_settings.specs.Refusals.{add_refusals};
+ghost use Rattle.hk_spec_settings.specs.Settings.{Rules};
 ghost use Rattle.hk_catalogue.specs.Refusals.{has_id, free, add_tests, withdraw_tests, seal_tests, answered, refusal_in, reason_of};
 ghost use Rattle.hk_catalogue.specs.Register.{new_register, refusal, noted, songs_after, Counts, AreRulesOf};
 

@@ -1,4 +1,4 @@
--- What is decided of edits, on a shelf and on its desk.
+-- What is decided of edits, on a shelf and on its state.
 use Rattle.std.proofs.Common.{◌≡◌, ℕ, ◌-◌, ◌^◌, ◌≤◌, inl, inr, List, [], ◌∷◌, ◌++◌, length, refl, sym, ◌∙◌, ap, subst, arith, Bool, true, false, Option, Some, None, option_map, Ok, Err}
 use Rattle.std.specs.Prelude.{not, min, nat_lt, nat_le}
 use Rattle.std.specs.Option.{option_map_or}
@@ -14,7 +14,7 @@ use Rattle.hk_spec_streams.specs.Operator.{Command, AddWords, Close}
 use Rattle.hk_spec_streams.specs.Operator as commands
 use Rattle.hk_spec_matching.specs.Catalogue.{Songs, Limits, has_song, positions_of, edited, edited_by, version}
 use Rattle.hk_spec_matching.specs.Catalogue as edits
-use Rattle.hk_spec_runs.specs.Desk.{Desk, Recording, present, refusals, recorded_words, added_song, with_edit, IsReply, answer, after}
+use Rattle.hk_spec_runs.specs.OperatorState.{OperatorState, UnfinishedSong, present, refusals, words_heard, added_song, with_edit, IsReply, answer, after}
 use Rattle.hk_spec_settings.specs.Refusals.{add_refusals}
 use Rattle.hk_spec_settings.specs.Settings.{Rules}
 use Rattle.hk_block.specs.Looker.{ShelfView}
@@ -27,14 +27,14 @@ use Rattle.hk_catalogue.specs.declared.refused.Refused.TheVariants as refused
 use Rattle.hk_catalogue.proofs.RollSongs.{reasons, allowed, there}
 use Rattle.hk_operator.specs.WordBuffer.{Buffered, Keeps}
 use Rattle.hk_operator.specs.Sound.{IsFixed}
-use Rattle.hk_operator.specs.Desk.{IsAtDesk, IsDecided, StaysPublished}
+use Rattle.hk_operator.specs.OnShelf.{IsOnShelf, IsDecided, StaysPublished}
 
--- the tests on the shelf are those on the desk
-pub add_reasons : (rules : Rules) (view : ShelfView) (desk : Desk) (id words : ℕ) → IsFixed rules → IsAtDesk rules view desk
-    → option_map reason_of (first_that_holds (add_tests view.limits (lengths_of view.present) id words)) ≡ first_that_holds (add_refusals rules (present rules desk) id words)
-add_reasons rules view desk id words fixed at =
+-- the tests on the shelf are those on the state
+pub add_reasons : (rules : Rules) (view : ShelfView) (state : OperatorState) (id words : ℕ) → IsFixed rules → IsOnShelf rules view state
+    → option_map reason_of (first_that_holds (add_tests view.limits (lengths_of view.present) id words)) ≡ first_that_holds (add_refusals rules (present rules state) id words)
+add_reasons rules view state id words fixed at =
     let are : AreRulesOf rules (register_of view) = record { block_size = fixed.block_size; limits = sym at.limits } in
-    reasons rules (register_of view) (present rules desk) id words are (ap lengths_of at.present)
+    reasons rules (register_of view) (present rules state) id words are (ap lengths_of at.present)
 
 -- so many words as stand still at their count's end are as many for the tests
 rows : ℕ → Limits → Songs → ℕ → Bool → Bool → Option Reason
@@ -62,42 +62,42 @@ count_tests rules songs id words fixed most = elim (cases_lt words (2 ^ 64 - 1))
 ]
 
 -- the tests on the shelf, of the words that are counted
-pub kept_reasons : (rules : Rules) (view : ShelfView) (desk : Desk) (kept : Buffered) (all : List ℕ) (id : ℕ) → IsFixed rules → IsAtDesk rules view desk → Keeps kept all
+pub kept_reasons : (rules : Rules) (view : ShelfView) (state : OperatorState) (kept : Buffered) (all : List ℕ) (id : ℕ) → IsFixed rules → IsOnShelf rules view state → Keeps kept all
     → kept.room ≡ rules.limits.positions → kept.room ≤ 2 ^ 24
-    → option_map reason_of (first_that_holds (add_tests view.limits (lengths_of view.present) id kept.count)) ≡ first_that_holds (add_refusals rules (present rules desk) id (length all))
-kept_reasons rules view desk kept all id fixed at is room most =
-    add_reasons rules view desk id kept.count fixed at
-    ∙ ap (λ n. first_that_holds (add_refusals rules (present rules desk) id n)) is.count
-    ∙ count_tests rules (present rules desk) id (length all) fixed (subst (λ n. n ≤ 2 ^ 24) room most)
+    → option_map reason_of (first_that_holds (add_tests view.limits (lengths_of view.present) id kept.count)) ≡ first_that_holds (add_refusals rules (present rules state) id (length all))
+kept_reasons rules view state kept all id fixed at is room most =
+    add_reasons rules view state id kept.count fixed at
+    ∙ ap (λ n. first_that_holds (add_refusals rules (present rules state) id n)) is.count
+    ∙ count_tests rules (present rules state) id (length all) fixed (subst (λ n. n ≤ 2 ^ 24) room most)
 
 unknown_by : (t : Bool) (id : ℕ) → option_map reason_of (first_that_holds ((t, refused.Unknown id) ∷ [])) ≡ first_that_holds ((t, Unknown) ∷ [])
 unknown_by true id = refl
 unknown_by false id = refl
 
-pub withdraw_reasons : (rules : Rules) (view : ShelfView) (desk : Desk) (id : ℕ) → IsAtDesk rules view desk
-    → option_map reason_of (first_that_holds (withdraw_tests (lengths_of view.present) id)) ≡ first_that_holds (refusals rules desk (commands.Withdraw id))
-withdraw_reasons rules view desk id at =
+pub withdraw_reasons : (rules : Rules) (view : ShelfView) (state : OperatorState) (id : ℕ) → IsOnShelf rules view state
+    → option_map reason_of (first_that_holds (withdraw_tests (lengths_of view.present) id)) ≡ first_that_holds (refusals rules state (commands.Withdraw id))
+withdraw_reasons rules view state id at =
     unknown_by (not (has_id (lengths_of view.present) id)) id
-    ∙ ap (λ t. first_that_holds ((not t, Unknown) ∷ [])) (there (register_of view) (present rules desk) id (ap lengths_of at.present))
+    ∙ ap (λ t. first_that_holds ((not t, Unknown) ∷ [])) (there (register_of view) (present rules state) id (ap lengths_of at.present))
 
 -- what is published stays
 pub stays : (view : ShelfView) → StaysPublished view view
 stays view = record { base = refl; limits = refl; journal = refl; home = refl }
 
--- the desk with an edit that is staged
-pub change_at_desk : (rules : Rules) (view : ShelfView) (desk : Desk) (change : edits.Edit) → IsAtDesk rules view desk → IsAtDesk rules (with_change view change) (with_edit rules desk change)
-change_at_desk rules view desk change at = record {
+-- the state with an edit that is staged
+pub change_on_shelf : (rules : Rules) (view : ShelfView) (state : OperatorState) (change : edits.Edit) → IsOnShelf rules view state → IsOnShelf rules (with_change view change) (with_edit rules state change)
+change_on_shelf rules view state change at = record {
   present = ap (λ l. edited l view.present change) at.limits ∙ ap (λ s. edited rules.limits s change) at.present
-      ∙ sym (fold-append (edited rules.limits) (version rules.limits desk.journal (length desk.journal)) desk.staged (change ∷ []));
+      ∙ sym (fold-append (edited rules.limits) (version rules.limits state.journal (length state.journal)) state.staged (change ∷ []));
   staged = ap (λ es. es ++ change ∷ []) at.staged;
   base = at.base;
   limits = at.limits;
 }
 
 -- the words of a song that isn't refused were all kept
-pub all_kept : (rules : Rules) (view : ShelfView) (desk : Desk) (kept : Buffered) (all : List ℕ) (id : ℕ) → IsAtDesk rules view desk → Keeps kept all
+pub all_kept : (rules : Rules) (view : ShelfView) (state : OperatorState) (kept : Buffered) (all : List ℕ) (id : ℕ) → IsOnShelf rules view state → Keeps kept all
     → kept.room ≡ rules.limits.positions → kept.room ≤ 2 ^ 24 → first_that_holds (add_tests view.limits (lengths_of view.present) id kept.count) ≡ None → kept.words ≡ all
-all_kept rules view desk kept all id at is room most none =
+all_kept rules view state kept all id at is room most none =
     let may = allowed view.limits (lengths_of view.present) id kept.count none in
     let left = may.words_left in
     let count : kept.count ≡ min (length all) (2 ^ 64 - 1) = is.count in
@@ -107,13 +107,13 @@ all_kept rules view desk kept all id at is room most none =
 song_is : (rules : Rules) (words : List ℕ) → IsFixed rules → shelves.song_of words ≡ added_song rules words
 song_is rules words fixed = ap (λ n. record { words = words; limit = n }) (sym fixed.errors)
 
--- the desk with a song that is staged
-pub song_at_desk : (rules : Rules) (view : ShelfView) (desk : Desk) (id : ℕ) (words all : List ℕ) → IsFixed rules → IsAtDesk rules view desk → words ≡ all
-    → IsAtDesk rules (with_change view (edits.Add id (shelves.song_of words))) (with_edit rules desk (edits.Add id (added_song rules all)))
-song_at_desk rules view desk id words all fixed at same =
-    subst (λ ws. IsAtDesk rules (with_change view (edits.Add id (shelves.song_of words))) (with_edit rules desk (edits.Add id (added_song rules ws)))) same
-    (subst (λ s. IsAtDesk rules (with_change view (edits.Add id (shelves.song_of words))) (with_edit rules desk (edits.Add id s))) (song_is rules words fixed)
-    (change_at_desk rules view desk (edits.Add id (shelves.song_of words)) at))
+-- the state with a song that is staged
+pub song_on_shelf : (rules : Rules) (view : ShelfView) (state : OperatorState) (id : ℕ) (words all : List ℕ) → IsFixed rules → IsOnShelf rules view state → words ≡ all
+    → IsOnShelf rules (with_change view (edits.Add id (shelves.song_of words))) (with_edit rules state (edits.Add id (added_song rules all)))
+song_on_shelf rules view state id words all fixed at same =
+    subst (λ ws. IsOnShelf rules (with_change view (edits.Add id (shelves.song_of words))) (with_edit rules state (edits.Add id (added_song rules ws)))) same
+    (subst (λ s. IsOnShelf rules (with_change view (edits.Add id (shelves.song_of words))) (with_edit rules state (edits.Add id s))) (song_is rules words fixed)
+    (change_on_shelf rules view state (edits.Add id (shelves.song_of words)) at))
 
 -- a decision by other words
 pub decided_as : (tests tests' : Option Reason) (what : What) (Stays Staged Stays' Staged' : Type 0) → tests ≡ tests' → (Stays → Stays') → (tests' ≡ None → Staged → Staged')
@@ -126,69 +126,69 @@ decided_as tests tests' what Stays Staged Stays' Staged' same stays staged is = 
     by None (Published v) on is = absurd is
     by None (Refused reason) on is = (is.0, stays is.1)
 
--- what is decided is a reply that fits, and leaves the desk that the definitions leave
-module _ (rules : Rules) (desk : Desk) (Leaves : Desk → Type 0) where
+-- what is decided is a reply that fits, and leaves the state that the definitions leave
+module _ (rules : Rules) (state : OperatorState) (Leaves : OperatorState → Type 0) where
   module _ (command : Command) (Staged Stays : Type 0)
-      (answer_is : answer rules desk command ≡ option_map_or (λ reason. Refused reason) (first_that_holds (refusals rules desk command)) Done)
-      (staged : Staged → Leaves (after rules desk command Done)) (stays : (reason : Reason) → Stays → Leaves (after rules desk command (Refused reason))) where
-    replied : (t : Option Reason) (what : What) → first_that_holds (refusals rules desk command) ≡ t → IsDecided t what Stays Staged
-        → IsReply rules desk command what × Leaves (after rules desk command what)
+      (answer_is : answer rules state command ≡ option_map_or (λ reason. Refused reason) (first_that_holds (refusals rules state command)) Done)
+      (staged : Staged → Leaves (after rules state command Done)) (stays : (reason : Reason) → Stays → Leaves (after rules state command (Refused reason))) where
+    replied : (t : Option Reason) (what : What) → first_that_holds (refusals rules state command) ≡ t → IsDecided t what Stays Staged
+        → IsReply rules state command what × Leaves (after rules state command what)
     replied (Some reason) what is decided =
-        (inl (decided.0 ∙ sym (answer_is ∙ ap (λ o. option_map_or (λ r. Refused r) o Done) is)), subst (λ w. Leaves (after rules desk command w)) (sym decided.0) (stays reason decided.1))
+        (inl (decided.0 ∙ sym (answer_is ∙ ap (λ o. option_map_or (λ r. Refused r) o Done) is)), subst (λ w. Leaves (after rules state command w)) (sym decided.0) (stays reason decided.1))
     replied None Done is decided = (inl (sym (answer_is ∙ ap (λ o. option_map_or (λ r. Refused r) o Done) is)), staged decided)
     replied None (Published v) is decided = absurd decided
     replied None (Refused reason) is decided = (inr (ap (λ r. Refused r) decided.0, is), stays reason decided.1)
 
   pub add_replied : (id : ℕ) (words : List ℕ) (what : What)
-      → IsDecided (first_that_holds (add_refusals rules (present rules desk) id (length words))) what (Leaves desk) (Leaves (with_edit rules desk (edits.Add id (added_song rules words))))
-      → IsReply rules desk (AddWords id words) what × Leaves (after rules desk (AddWords id words) what)
+      → IsDecided (first_that_holds (add_refusals rules (present rules state) id (length words))) what (Leaves state) (Leaves (with_edit rules state (edits.Add id (added_song rules words))))
+      → IsReply rules state (AddWords id words) what × Leaves (after rules state (AddWords id words) what)
   unfolding answer after
   add_replied id words what decided =
-      replied (AddWords id words) (Leaves (with_edit rules desk (edits.Add id (added_song rules words)))) (Leaves desk) refl (λ s. s) (λ reason s. s)
-      (first_that_holds (add_refusals rules (present rules desk) id (length words))) what refl decided
+      replied (AddWords id words) (Leaves (with_edit rules state (edits.Add id (added_song rules words)))) (Leaves state) refl (λ s. s) (λ reason s. s)
+      (first_that_holds (add_refusals rules (present rules state) id (length words))) what refl decided
 
   pub withdraw_replied : (id : ℕ) (what : What)
-      → IsDecided (first_that_holds (refusals rules desk (commands.Withdraw id))) what (Leaves desk) (Leaves (with_edit rules desk (edits.Withdraw id)))
-      → IsReply rules desk (commands.Withdraw id) what × Leaves (after rules desk (commands.Withdraw id) what)
+      → IsDecided (first_that_holds (refusals rules state (commands.Withdraw id))) what (Leaves state) (Leaves (with_edit rules state (edits.Withdraw id)))
+      → IsReply rules state (commands.Withdraw id) what × Leaves (after rules state (commands.Withdraw id) what)
   unfolding answer after
   withdraw_replied id what decided =
-      replied (commands.Withdraw id) (Leaves (with_edit rules desk (edits.Withdraw id))) (Leaves desk) refl (λ s. s) (λ reason s. s)
-      (first_that_holds (refusals rules desk (commands.Withdraw id))) what refl decided
+      replied (commands.Withdraw id) (Leaves (with_edit rules state (edits.Withdraw id))) (Leaves state) refl (λ s. s) (λ reason s. s)
+      (first_that_holds (refusals rules state (commands.Withdraw id))) what refl decided
 
-  -- on a desk whose song is this one
-  close_some : (song : Recording) (what : What)
-      → IsDecided (first_that_holds (add_refusals rules (present rules desk) song.id (length (recorded_words rules song)))) what (Leaves (record desk { song = None }))
-      (Leaves (record (with_edit rules desk (edits.Add song.id (added_song rules (recorded_words rules song)))) { song = None }))
-      → IsReply rules (record desk { song = Some song }) Close what × Leaves (after rules (record desk { song = Some song }) Close what)
+  -- on a state whose song is this one
+  close_some : (song : UnfinishedSong) (what : What)
+      → IsDecided (first_that_holds (add_refusals rules (present rules state) song.id (length (words_heard rules song)))) what (Leaves (record state { song = None }))
+      (Leaves (record (with_edit rules state (edits.Add song.id (added_song rules (words_heard rules song)))) { song = None }))
+      → IsReply rules (record state { song = Some song }) Close what × Leaves (after rules (record state { song = Some song }) Close what)
   unfolding answer after
-  close_some song what decided = by (first_that_holds (add_refusals rules (present rules desk) song.id (length (recorded_words rules song)))) what refl decided
+  close_some song what decided = by (first_that_holds (add_refusals rules (present rules state) song.id (length (words_heard rules song)))) what refl decided
     where
-      by : (t : Option Reason) (w : What) → first_that_holds (add_refusals rules (present rules desk) song.id (length (recorded_words rules song))) ≡ t
-          → IsDecided t w (Leaves (record desk { song = None })) (Leaves (record (with_edit rules desk (edits.Add song.id (added_song rules (recorded_words rules song)))) { song = None }))
-          → IsReply rules (record desk { song = Some song }) Close w × Leaves (after rules (record desk { song = Some song }) Close w)
+      by : (t : Option Reason) (w : What) → first_that_holds (add_refusals rules (present rules state) song.id (length (words_heard rules song))) ≡ t
+          → IsDecided t w (Leaves (record state { song = None })) (Leaves (record (with_edit rules state (edits.Add song.id (added_song rules (words_heard rules song)))) { song = None }))
+          → IsReply rules (record state { song = Some song }) Close w × Leaves (after rules (record state { song = Some song }) Close w)
       by (Some reason) w is d =
-          (inl (d.0 ∙ sym (ap (λ o. option_map_or (λ r. Refused r) o Done) is)), subst (λ v. Leaves (after rules (record desk { song = Some song }) Close v)) (sym d.0) d.1)
+          (inl (d.0 ∙ sym (ap (λ o. option_map_or (λ r. Refused r) o Done) is)), subst (λ v. Leaves (after rules (record state { song = Some song }) Close v)) (sym d.0) d.1)
       by None Done is d = (inl (sym (ap (λ o. option_map_or (λ r. Refused r) o Done) is)), d)
       by None (Published v) is d = absurd d
       by None (Refused reason) is d = (inr (ap (λ r. Refused r) d.0, is), d.1)
 
-  pub close_replied : (song : Recording) (what : What) → desk.song ≡ Some song
-      → IsDecided (first_that_holds (add_refusals rules (present rules desk) song.id (length (recorded_words rules song)))) what (Leaves (record desk { song = None }))
-      (Leaves (record (with_edit rules desk (edits.Add song.id (added_song rules (recorded_words rules song)))) { song = None }))
-      → IsReply rules desk Close what × Leaves (after rules desk Close what)
+  pub close_replied : (song : UnfinishedSong) (what : What) → state.song ≡ Some song
+      → IsDecided (first_that_holds (add_refusals rules (present rules state) song.id (length (words_heard rules song)))) what (Leaves (record state { song = None }))
+      (Leaves (record (with_edit rules state (edits.Add song.id (added_song rules (words_heard rules song)))) { song = None }))
+      → IsReply rules state Close what × Leaves (after rules state Close what)
   close_replied song what is decided =
-      subst (λ o. IsReply rules (record desk { song = o }) Close what × Leaves (after rules (record desk { song = o }) Close what)) (sym is) (close_some song what decided)
+      subst (λ o. IsReply rules (record state { song = o }) Close what × Leaves (after rules (record state { song = o }) Close what)) (sym is) (close_some song what decided)
 
-  no_song : answer rules (record desk { song = None }) Close ≡ Refused NoSongOpen
+  no_song : answer rules (record state { song = None }) Close ≡ Refused NoSongOpen
   unfolding answer
   no_song = refl
 
-  left_none : Leaves (record desk { song = None }) → Leaves (after rules desk Close (Refused NoSongOpen))
+  left_none : Leaves (record state { song = None }) → Leaves (after rules state Close (Refused NoSongOpen))
   unfolding after
   left_none leaves = leaves
 
-  pub close_none : desk.song ≡ None → Leaves (record desk { song = None }) → IsReply rules desk Close (Refused NoSongOpen) × Leaves (after rules desk Close (Refused NoSongOpen))
-  close_none none leaves = (inl (sym (subst (λ o. answer rules (record desk { song = o }) Close ≡ Refused NoSongOpen) (sym none) no_song)), left_none leaves)
+  pub close_none : state.song ≡ None → Leaves (record state { song = None }) → IsReply rules state Close (Refused NoSongOpen) × Leaves (after rules state Close (Refused NoSongOpen))
+  close_none none leaves = (inl (sym (subst (λ o. answer rules (record state { song = o }) Close ≡ Refused NoSongOpen) (sym none) no_song)), left_none leaves)
 
 pub refused_from : (tests : Option refusing.Refused) (r : refusing.Refused) → answered tests ≡ Err r → tests ≡ Some r
 refused_from None r is = absurd (cc)
@@ -205,10 +205,10 @@ pub no_memory_so : (tests : Option Reason) (Stays Staged : Type 0) → tests ≡
 no_memory_so tests Stays Staged is stays = subst (λ t. IsDecided t (Refused NoMemory) Stays Staged) (sym is) (refl, stays)
 
 -- the tests of a block's words are those of the words that are counted, where no test holds of these
-pub tests_of_block : (rules : Rules) (view : ShelfView) (desk : Desk) (kept : Buffered) (all : List ℕ) (id : ℕ) (words : List ℕ) → IsFixed rules → IsAtDesk rules view desk → Keeps kept all
+pub tests_of_block : (rules : Rules) (view : ShelfView) (state : OperatorState) (kept : Buffered) (all : List ℕ) (id : ℕ) (words : List ℕ) → IsFixed rules → IsOnShelf rules view state → Keeps kept all
     → kept.room ≡ rules.limits.positions → kept.room ≤ 2 ^ 24 → words ≡ kept.words → first_that_holds (add_tests view.limits (lengths_of view.present) id kept.count) ≡ None
-    → (option_map reason_of (first_that_holds (add_tests view.limits (lengths_of view.present) id (length words))) ≡ first_that_holds (add_refusals rules (present rules desk) id (length all)))
+    → (option_map reason_of (first_that_holds (add_tests view.limits (lengths_of view.present) id (length words))) ≡ first_that_holds (add_refusals rules (present rules state) id (length all)))
     × (words ≡ all)
-tests_of_block rules view desk kept all id words fixed at keeps room most same none =
-    let whole : words ≡ all = same ∙ all_kept rules view desk kept all id at keeps room most none in
-    (add_reasons rules view desk id (length words) fixed at ∙ ap (λ ws. first_that_holds (add_refusals rules (present rules desk) id (length ws))) whole, whole)
+tests_of_block rules view state kept all id words fixed at keeps room most same none =
+    let whole : words ≡ all = same ∙ all_kept rules view state kept all id at keeps room most none in
+    (add_reasons rules view state id (length words) fixed at ∙ ap (λ ws. first_that_holds (add_refusals rules (present rules state) id (length ws))) whole, whole)

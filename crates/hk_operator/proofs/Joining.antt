@@ -1,4 +1,4 @@
--- An operator in a run: what a byte leaves of the scene, and what a publish leaves of the desk.
+-- An operator in a run: what a byte leaves of the scene, and what a publish leaves of the state.
 use Rattle.std.proofs.Common.{◌≡◌, ℕ, ◌+◌, List, [], ◌∷◌, ◌++◌, length, refl, sym, ◌∙◌, ap, arith, length-append, Bool, true, false, Option, Some, None, cond}
 use Rattle.std.specs.Prelude.{is_some, nat_le, fold}
 use Rattle.std.specs.Option.{option_map_or}
@@ -13,84 +13,84 @@ use Rattle.hk_base.specs.declared.plain.WireFault.{WireFault}
 use Rattle.hk_spec_streams.specs.Pieces.{completed, first_that_holds}
 use Rattle.hk_spec_streams.specs.Operator.{Command, Publish, commands, operator_met}
 use Rattle.hk_spec_matching.specs.Catalogue.{Limits, Journal, edited_by, version}
-use Rattle.hk_spec_runs.specs.Desk.{Desk, present, refusals, after}
+use Rattle.hk_spec_runs.specs.OperatorState.{OperatorState, present, refusals, after}
 use Rattle.hk_spec_settings.specs.Settings.{Rules}
-use Rattle.hk_spec_runs.specs.Replay.{Scene, Clerk, obeyed, for_operator}
+use Rattle.hk_spec_runs.specs.Replay.{Scene, OperatorStream, obeyed, for_operator}
 use Rattle.hk_block.specs.Looker.{ShelfView}
-use Rattle.hk_operator.specs.Desk.{IsAtDesk}
-use Rattle.hk_operator.specs.Obeying.{IsObeying, clerk_after, new_commands}
+use Rattle.hk_operator.specs.OnShelf.{IsOnShelf}
+use Rattle.hk_operator.specs.Obeying.{IsObeying, calls_after, new_commands}
 use Rattle.hk_operator.specs.declared.operator.Operator.{Operator}
 
 module _ (rules : Rules) (refused : List ℕ) (scene : Scene) (used : List ℕ) where
-  -- the scene after a byte, by whether the clerk is over and by the fault that the byte meets
+  -- the scene after a byte, by whether the calls is over and by the fault that the byte meets
   scene_by : Option OpEnd → Option WireFault → Scene
   scene_by end met =
       cond (is_some end) scene
-      (option_map_or (λ fault. record scene { clerk = record { used = scene.clerk.used; end = Some (op_ends.Wire fault) } }) met
-      (fold (obeyed rules refused) (record scene { clerk = record { used = used; end = None } }) (enumerate_from (length (commands scene.clerk.used) + 1) (completed commands used))))
+      (option_map_or (λ fault. record scene { calls = record { used = scene.calls.used; end = Some (op_ends.Wire fault) } }) met
+      (fold (obeyed rules refused) (record scene { calls = record { used = used; end = None } }) (enumerate_from (length (commands scene.calls.used) + 1) (completed commands used))))
 
-  clerk_by : Option OpEnd → Option WireFault → Clerk
-  clerk_by end met = cond (is_some end) scene.clerk
-      (option_map_or (λ fault. record { used = scene.clerk.used; end = Some (op_ends.Wire fault) }) met (record { used = used; end = None }))
+  calls_by : Option OpEnd → Option WireFault → OperatorStream
+  calls_by end met = cond (is_some end) scene.calls
+      (option_map_or (λ fault. record { used = scene.calls.used; end = Some (op_ends.Wire fault) }) met (record { used = used; end = None }))
 
-  folded : Clerk → List Command → Scene
-  folded clerk cs = fold (obeyed rules refused) (record scene { clerk = clerk }) (enumerate_from (length (commands scene.clerk.used) + 1) cs)
+  folded : OperatorStream → List Command → Scene
+  folded calls cs = fold (obeyed rules refused) (record scene { calls = calls }) (enumerate_from (length (commands scene.calls.used) + 1) cs)
 
-  alike : (end : Option OpEnd) (met : Option WireFault) → scene.clerk.end ≡ end
-      → scene_by end met ≡ folded (clerk_by end met) (cond (is_some (clerk_by end met).end) [] (completed commands used))
-  unfolding scene_by clerk_by folded
-  alike (Some e) met is = sym (ap (λ o. fold (obeyed rules refused) scene (enumerate_from (length (commands scene.clerk.used) + 1) (cond (is_some o) [] (completed commands used)))) is)
+  alike : (end : Option OpEnd) (met : Option WireFault) → scene.calls.end ≡ end
+      → scene_by end met ≡ folded (calls_by end met) (cond (is_some (calls_by end met).end) [] (completed commands used))
+  unfolding scene_by calls_by folded
+  alike (Some e) met is = sym (ap (λ o. fold (obeyed rules refused) scene (enumerate_from (length (commands scene.calls.used) + 1) (cond (is_some o) [] (completed commands used)))) is)
   alike None (Some f) is = refl
   alike None None is = refl
 
--- a byte's commands are obeyed with the clerk that it leaves
+-- a byte's commands are obeyed with the calls that it leaves
 pub for_operator_is : (rules : Rules) (refused : List ℕ) (scene : Scene) (b : ℕ)
     → for_operator rules refused scene b
-    ≡ fold (obeyed rules refused) (record scene { clerk = clerk_after rules scene.clerk b }) (enumerate_from (length (commands scene.clerk.used) + 1) (new_commands rules scene.clerk b))
-unfolding scene_by clerk_by folded
+    ≡ fold (obeyed rules refused) (record scene { calls = calls_after rules scene.calls b }) (enumerate_from (length (commands scene.calls.used) + 1) (new_commands rules scene.calls b))
+unfolding scene_by calls_by folded
 for_operator_is rules refused scene b =
-    alike rules refused scene (scene.clerk.used ++ b ∷ []) scene.clerk.end (operator_met rules.bytes (scene.clerk.used ++ b ∷ [])) refl
+    alike rules refused scene (scene.calls.used ++ b ∷ []) scene.calls.end (operator_met rules.bytes (scene.calls.used ++ b ∷ [])) refl
 
 full_row : (t : Bool) → is_some (first_that_holds ((t, VersionsFull) ∷ [])) ≡ t
 full_row true = refl
 full_row false = refl
 
-module _ (rules : Rules) (view : ShelfView) (desk : Desk) (at : IsAtDesk rules view desk) where
+module _ (rules : Rules) (view : ShelfView) (state : OperatorState) (at : IsOnShelf rules view state) where
   -- a publish is refused exactly where the shelf's versions are all published
-  pub publish_refused : is_some (first_that_holds (refusals rules desk Publish)) ≡ nat_le view.limits.versions view.base.0
+  pub publish_refused : is_some (first_that_holds (refusals rules state Publish)) ≡ nat_le view.limits.versions view.base.0
   publish_refused =
-      full_row (nat_le rules.limits.versions (length desk.journal))
-      ∙ ap (λ (l : Limits). nat_le l.versions (length desk.journal)) (sym at.limits)
+      full_row (nat_le rules.limits.versions (length state.journal))
+      ∙ ap (λ (l : Limits). nat_le l.versions (length state.journal)) (sym at.limits)
       ∙ ap (nat_le view.limits.versions) (sym (ap (λ p. p.0) at.base))
 
-  published_is : version rules.limits (desk.journal ++ desk.staged ∷ []) (length (desk.journal ++ desk.staged ∷ [])) ≡ present rules desk
+  published_is : version rules.limits (state.journal ++ state.staged ∷ []) (length (state.journal ++ state.staged ∷ [])) ≡ present rules state
   unfolding version
   published_is =
-      let now : Journal = desk.journal ++ desk.staged ∷ [] in
+      let now : Journal = state.journal ++ state.staged ∷ [] in
       ap (fold (edited_by rules.limits) []) (take_all (length now) now (omega arith))
-      ∙ fold-append (edited_by rules.limits) [] desk.journal (desk.staged ∷ [])
-      ∙ ap (λ j. edited_by rules.limits (fold (edited_by rules.limits) [] j) desk.staged) (sym (take_all (length desk.journal) desk.journal (omega arith)))
+      ∙ fold-append (edited_by rules.limits) [] state.journal (state.staged ∷ [])
+      ∙ ap (λ j. edited_by rules.limits (fold (edited_by rules.limits) [] j) state.staged) (sym (take_all (length state.journal) state.journal (omega arith)))
 
-  -- a shelf that has published all that was staged stands for the desk after a publish
+  -- a shelf that has published all that was staged stands for the state after a publish
   module _ (view' : ShelfView) (present' : view'.present ≡ view.present) (staged' : view'.staged ≡ []) (base' : view'.base ≡ (view.base.0 + 1, view.present)) (limits' : view'.limits ≡ view.limits) where
-    pub published_at_desk : IsAtDesk rules view' (after rules desk Publish (Published (length desk.journal + 1)))
+    pub published_on_shelf : IsOnShelf rules view' (after rules state Publish (Published (length state.journal + 1)))
     unfolding after
-    published_at_desk = record {
+    published_on_shelf = record {
       present = present' ∙ at.present ∙ sym published_is;
       staged = staged';
       base = base' ∙ ap (λ n. (n + 1, view.present)) (ap (λ p. p.0) at.base)
-          ∙ ap (λ n. (n, view.present)) (sym (length-append desk.journal (desk.staged ∷ [])))
-          ∙ ap (λ s. (length (desk.journal ++ desk.staged ∷ []), s)) (at.present ∙ sym published_is);
+          ∙ ap (λ n. (n, view.present)) (sym (length-append state.journal (state.staged ∷ [])))
+          ∙ ap (λ s. (length (state.journal ++ state.staged ∷ []), s)) (at.present ∙ sym published_is);
       limits = limits' ∙ at.limits;
     }
 
-    pub publish_obeyed : (operator : Operator) (clerk : Clerk) → IsObeying rules operator view clerk desk
-        → IsObeying rules operator view' clerk (after rules desk Publish (Published (length desk.journal + 1)))
+    pub publish_obeyed : (operator : Operator) (calls : OperatorStream) → IsObeying rules operator view calls state
+        → IsObeying rules operator view' calls (after rules state Publish (Published (length state.journal + 1)))
     unfolding after
-    publish_obeyed operator clerk h = record {
+    publish_obeyed operator calls h = record {
       fixed = h.fixed;
       stream = h.stream;
-      shelf = published_at_desk;
+      shelf = published_on_shelf;
       number = h.number;
       limit = h.limit;
       short = h.short;

@@ -1,7 +1,7 @@
 pub mod Drafting
 pub mod SoundThere
 pub mod WholeCommands
-pub mod ClerkAfter
+pub mod CallsAfter
 pub mod Hearing
 pub mod Deciding
 pub mod Following

@@ -2,5 +2,5 @@ pub mod WordBuffer
 pub mod Inside
 pub mod Draft
 pub mod Sound
-pub mod Desk
+pub mod OnShelf
 pub mod Obeying

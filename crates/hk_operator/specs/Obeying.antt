@@ -1,4 +1,4 @@
--- An operator, its shelf, and the clerk and the desk that they stand for.
+-- An operator, its shelf, and the calls and the state that they stand for.
 use Rattle.std.specs.Prelude.{◌≡◌, ℕ, ◌+◌, ◌-◌, ◌^◌, ◌<◌, ◌≤◌, min, Bool, true, false, if◌then◌else◌, List, [], ◌∷◌, ◌++◌, length, Option, Some, None, is_some}
 use Rattle.std.specs.Option.{option_map_or}
 use Rattle.hk_base.specs.declared.plain.OpEnd.{OpEnd}
@@ -6,22 +6,22 @@ use Rattle.hk_base.specs.declared.plain.OpEnd.TheVariants as ends
 use Rattle.hk_base.specs.declared.plain.WireFault.{WireFault}
 use Rattle.hk_spec_streams.specs.Pieces.{completed}
 use Rattle.hk_spec_streams.specs.Operator.{Command, Publish, operator_met, operator_fault, commands}
-use Rattle.hk_spec_runs.specs.Desk.{Desk, Recording, IsReply, after}
+use Rattle.hk_spec_runs.specs.OperatorState.{OperatorState, UnfinishedSong, IsReply, after}
 use Rattle.hk_spec_settings.specs.Settings.{Rules}
-use Rattle.hk_spec_runs.specs.Replay.{Clerk}
+use Rattle.hk_spec_runs.specs.Replay.{OperatorStream}
 use Rattle.hk_block.specs.Looker.{ShelfView}
 use Rattle.hk_operator_wire.specs.Items.{last_command}
 use Rattle.hk_operator_wire.specs.Taken.{HasTaken, limit_of, fault_met}
 use Rattle.hk_operator.specs.Draft.{IsDraft}
 use Rattle.hk_operator.specs.Sound.{IsFixed, IsRecording, sound_ahead}
-use Rattle.hk_operator.specs.Desk.{IsAtDesk}
+use Rattle.hk_operator.specs.OnShelf.{IsOnShelf}
 use Rattle.hk_operator.specs.declared.done.Done.{Done}
 use Rattle.hk_operator.specs.declared.done.Done.TheVariants.{More, Reply, Publish as Published, Over}
 use Rattle.hk_operator.specs.declared.operator.Operator.{Operator}
 use Rattle.hk_operator.specs.declared.recorder.Recorder.{Recorder}
 
 -- The operator has taken these bytes, which have no fault, and keeps the open command, and the open song's words.
-pub record HasObeyed (rules : Rules) (operator : Operator) (used : List ℕ) (song : Option Recording) : Type 0 where
+pub record HasObeyed (rules : Rules) (operator : Operator) (used : List ℕ) (song : Option UnfinishedSong) : Type 0 where
   pub taken : HasTaken operator.wire used
   pub no_fault : operator_fault rules.bytes used ≡ None
   pub draft : IsDraft operator.draft (last_command used)
@@ -37,42 +37,42 @@ pub record HasMet (rules : Rules) (operator : Operator) (end : OpEnd) : Type 0 w
   pub taken : HasTaken operator.wire text
   pub met : operator_fault rules.bytes text ≡ Some fault
 
-abbrev pub IsAtEnd : Rules → Operator → List ℕ → Option Recording → Option OpEnd → Type 0
+abbrev pub IsAtEnd : Rules → Operator → List ℕ → Option UnfinishedSong → Option OpEnd → Type 0
 IsAtEnd rules operator used song None = HasObeyed rules operator used song
 IsAtEnd rules operator used song (Some end) = HasMet rules operator end
 
--- The operator and its shelf stand for a clerk and a desk.
-pub record IsObeying (rules : Rules) (operator : Operator) (view : ShelfView) (clerk : Clerk) (desk : Desk) : Type 0 where
+-- The operator and its shelf stand for a calls and a state.
+pub record IsObeying (rules : Rules) (operator : Operator) (view : ShelfView) (calls : OperatorStream) (state : OperatorState) : Type 0 where
   pub fixed : IsFixed rules
-  pub stream : IsAtEnd rules operator clerk.used desk.song clerk.end
-  pub shelf : IsAtDesk rules view desk
-  pub number : operator.commands ≡ length (commands clerk.used)
+  pub stream : IsAtEnd rules operator calls.used state.song calls.end
+  pub shelf : IsOnShelf rules view state
+  pub number : operator.commands ≡ length (commands calls.used)
   pub limit : limit_of operator.wire ≡ rules.bytes
   pub short : rules.bytes < 2 ^ 64
   pub room : operator.draft.words.room ≡ rules.limits.positions
   pub song_room : operator.recorder.words.room ≡ rules.limits.positions
 
--- What stands of a desk where a command is whole: the recorder has heard the command's sound, and the shelf has what was staged.
-pub record IsDesk (rules : Rules) (operator : Operator) (view : ShelfView) (desk : Desk) (sound : List ℕ) : Type 0 where
+-- What stands of a state where a command is whole: the recorder has heard the command's sound, and the shelf has what was staged.
+pub record IsAtCommand (rules : Rules) (operator : Operator) (view : ShelfView) (state : OperatorState) (sound : List ℕ) : Type 0 where
   pub fixed : IsFixed rules
-  pub recording : IsRecording rules operator.recorder desk.song sound
-  pub shelf : IsAtDesk rules view desk
+  pub recording : IsRecording rules operator.recorder state.song sound
+  pub shelf : IsOnShelf rules view state
   pub room : operator.draft.words.room ≡ rules.limits.positions
   pub song_room : operator.recorder.words.room ≡ rules.limits.positions
 
-abbrev pub new_clerk : Clerk
-new_clerk = record { used = []; end = None }
+abbrev pub new_calls : OperatorStream
+new_calls = record { used = []; end = None }
 
--- the clerk after a byte: over by the fault that it meets, or with the byte used; one that is over stays
-abbrev pub clerk_after : Rules → Clerk → ℕ → Clerk
-clerk_after rules clerk byte =
-    let used = clerk.used ++ byte ∷ [] in
-    if is_some clerk.end then clerk else
-    option_map_or (λ fault. record { used = clerk.used; end = Some (ends.Wire fault) }) (operator_met rules.bytes used) (record { used = used; end = None })
+-- the calls after a byte: over by the fault that it meets, or with the byte used; one that is over stays
+abbrev pub calls_after : Rules → OperatorStream → ℕ → OperatorStream
+calls_after rules calls byte =
+    let used = calls.used ++ byte ∷ [] in
+    if is_some calls.end then calls else
+    option_map_or (λ fault. record { used = calls.used; end = Some (ends.Wire fault) }) (operator_met rules.bytes used) (record { used = used; end = None })
 
--- the command that a byte ends, none where the clerk is over then
-abbrev pub new_commands : Rules → Clerk → ℕ → List Command
-new_commands rules clerk byte = if is_some (clerk_after rules clerk byte).end then [] else completed commands (clerk.used ++ byte ∷ [])
+-- the command that a byte ends, none where the calls is over then
+abbrev pub new_commands : Rules → OperatorStream → ℕ → List Command
+new_commands rules calls byte = if is_some (calls_after rules calls byte).end then [] else completed commands (calls.used ++ byte ∷ [])
 
 abbrev pub end_in : Done → Option OpEnd
 end_in (Over end) = Some end
@@ -84,18 +84,18 @@ abbrev pub is_publish : Command → Bool
 is_publish Publish = true
 is_publish command = false
 
--- A command's reply is given with its number, and what the definitions leave of the desk is left. A publish is handed out with its
--- number, and leaves the desk as it is. Where no command ends nothing is given, and the desk stays.
-abbrev pub IsAnswered : Rules → Desk → ℕ → List Command → Done → (Desk → Type 0) → Type 0
-IsAnswered rules desk number [] More Leaves = Leaves desk
-IsAnswered rules desk number [] (Over end) Leaves = Leaves desk
-IsAnswered rules desk number [] (Reply reply) Leaves = ⊥
-IsAnswered rules desk number [] (Published n) Leaves = ⊥
-IsAnswered rules desk number (command ∷ more) (Reply reply) Leaves =
-    (more ≡ []) × (is_publish command ≡ false) × (reply.number ≡ number) × IsReply rules desk command reply.what × Leaves (after rules desk command reply.what)
-IsAnswered rules desk number (command ∷ more) (Published n) Leaves = (more ≡ []) × (command ≡ Publish) × (n ≡ number) × Leaves desk
-IsAnswered rules desk number (command ∷ more) More Leaves = ⊥
-IsAnswered rules desk number (command ∷ more) (Over end) Leaves = ⊥
+-- A command's reply is given with its number, and what the definitions leave of the state is left. A publish is handed out with its
+-- number, and leaves the state as it is. Where no command ends nothing is given, and the state stays.
+abbrev pub IsAnswered : Rules → OperatorState → ℕ → List Command → Done → (OperatorState → Type 0) → Type 0
+IsAnswered rules state number [] More Leaves = Leaves state
+IsAnswered rules state number [] (Over end) Leaves = Leaves state
+IsAnswered rules state number [] (Reply reply) Leaves = ⊥
+IsAnswered rules state number [] (Published n) Leaves = ⊥
+IsAnswered rules state number (command ∷ more) (Reply reply) Leaves =
+    (more ≡ []) × (is_publish command ≡ false) × (reply.number ≡ number) × IsReply rules state command reply.what × Leaves (after rules state command reply.what)
+IsAnswered rules state number (command ∷ more) (Published n) Leaves = (more ≡ []) × (command ≡ Publish) × (n ≡ number) × Leaves state
+IsAnswered rules state number (command ∷ more) More Leaves = ⊥
+IsAnswered rules state number (command ∷ more) (Over end) Leaves = ⊥
 
 -- the number of the next command
 abbrev pub next_number : Operator → ℕ

@@ -7,7 +7,7 @@ use Rattle.hk_spec_streams.specs.Pieces.{is_one_of}
 use Rattle.hk_spec_streams.specs.Commands.{Content, Sound, content_of}
 use Rattle.hk_spec_streams.specs.Operator.{Command, Audio}
 use Rattle.hk_spec_matching.specs.Matching.{MOST_ERRORS}
-use Rattle.hk_spec_runs.specs.Desk.{Recording, recorded_words}
+use Rattle.hk_spec_runs.specs.OperatorState.{UnfinishedSong, words_heard}
 use Rattle.hk_spec_settings.specs.Settings.{Rules}
 use Rattle.hk_operator_wire.specs.declared.item.Part.{Part}
 use Rattle.hk_operator_wire.specs.declared.item.Part.TheVariants as parts
@@ -51,14 +51,14 @@ abbrev pub sound_ahead : List ℕ → List ℕ
 sound_ahead bytes = if is_whole_command bytes then [] else sound_there bytes
 
 -- The recorder has heard this sound of the song.
-pub record Hears (rules : Rules) (recorder : Recorder) (song : Recording) (heard : List ℕ) : Type 0 where
+pub record Hears (rules : Rules) (recorder : Recorder) (song : UnfinishedSong) (heard : List ℕ) : Type 0 where
   pub id : recorder.song ≡ Some song.id
   pub channels : channels_of recorder.front ≡ song.form.channels
   pub factor : factor_of recorder.front ≡ song.form.factor
   pub taken : front.HasTaken recorder.front heard
-  pub words : Keeps recorder.words (recorded_words rules (record song { audio = heard }))
+  pub words : Keeps recorder.words (words_heard rules (record song { audio = heard }))
 
 -- The recorder has heard the open song's sound, and the sound behind it.
-abbrev pub IsRecording : Rules → Recorder → Option Recording → List ℕ → Type 0
+abbrev pub IsRecording : Rules → Recorder → Option UnfinishedSong → List ℕ → Type 0
 IsRecording rules recorder None sound = recorder.song ≡ None
 IsRecording rules recorder (Some song) sound = Hears rules recorder song (song.audio ++ sound)

@@ -2,7 +2,7 @@
 //!
 //! [`Operator`] takes the bytes of an operator's stream. A byte that ends a command is answered with the command's reply,
 //! and a publish is handed to the caller, who publishes on the shelf. Recordings come as words, or as sound that the
-//! operator's own front turns into words. Callers see the operator, with its shelf, as the clerk and the desk of a run
+//! operator's own front turns into words. Callers see the operator, with its shelf, as the calls and the state of a run
 //! (`IsObeying`). It never publishes, and keeps no more of a stream than the open command and the words of the open song.
 #![tactic(auto)]
 

@@ -1,11 +1,11 @@
 // The operator.
 ghost use Rattle.std.specs.Prelude.{◌≡◌, ◌≤◌, ◌^◌, ◌+◌, ℕ, [], ◌∷◌, length, IfOk, is_some, true, None};
 ghost use Rattle.hk_spec_streams.specs.Operator.{Command, Close, commands};
-ghost use Rattle.hk_spec_runs.specs.Desk.{Desk, IsReply, after};
+ghost use Rattle.hk_spec_runs.specs.OperatorState.{OperatorState, IsReply, after};
 ghost use Rattle.hk_spec_settings.specs.Settings.{Rules};
-ghost use Rattle.hk_spec_runs.specs.Replay.{Clerk, operator_end_of};
+ghost use Rattle.hk_spec_runs.specs.Replay.{OperatorStream, operator_end_of};
 ghost use Rattle.hk_block.specs.Looker.{ShelfView};
-ghost use Rattle.hk_operator.specs.Desk.{IsAtDesk, StaysPublished};
+ghost use Rattle.hk_operator.specs.OnShelf.{IsOnShelf, StaysPublished};
 ghost use Rattle.hk_operator.specs.Draft.{Drafts};
 ghost use Rattle.hk_operator.specs.Sound.{IsFixed, sound_of};
 
@@ -35,15 +35,15 @@ fn reply(number: u64, what: What) -> Done
 }
 
 impl Operator {
-    ghost use Rattle.hk_operator.specs.Obeying.{IsObeying, IsDesk, clerk_after, new_clerk, new_commands, end_in, IsAnswered, next_number, counted};
+    ghost use Rattle.hk_operator.specs.Obeying.{IsObeying, IsAtCommand, calls_after, new_calls, new_commands, end_in, IsAnswered, next_number, counted};
 
     /// An operator that has taken nothing, for streams of at most `limit` bytes, and a shelf of `positions` words, 256 to
     /// 2^24. It takes room for as many words of a command and of an open song, so that collecting them takes no memory.
     pub fn new(alloc: Global, limit: u64, positions: u32) -> Result<Operator, NoMemory>
         requires enough { 256 ≤ positions }
         requires most { positions ≤ 2 ^ 24 }
-        ensures { IfOk result (λ operator. (rules : Rules) (view : ShelfView) (desk : Desk) → IsFixed rules → rules.bytes ≡ limit → rules.limits.positions ≡ positions
-            → desk.song ≡ None → IsAtDesk rules view desk → IsObeying rules operator view new_clerk desk) }
+        ensures { IfOk result (λ operator. (rules : Rules) (view : ShelfView) (state : OperatorState) → IsFixed rules → rules.bytes ≡ limit → rules.limits.positions ≡ positions
+            → state.song ≡ None → IsOnShelf rules view state → IsObeying rules operator view new_calls state) }
     {
         Ok(Operator {
             alloc,
@@ -57,13 +57,13 @@ impl Operator {
     /// Takes the stream's next byte. The last byte of a command stages its edit and gives its reply, or hands a publish to
     /// the caller. After a fault each push answers that fault and changes nothing.
     pub fn push<S: Shelf>(&mut self, byte: u8, shelf: &mut S) -> Done
-        ensures over { (rules : Rules) (clerk : Clerk) (desk : Desk) → IsObeying rules self.old (S.shelf shelf.old) clerk desk
-            → end_in result ≡ (clerk_after rules clerk byte).end }
-        ensures answered { (rules : Rules) (clerk : Clerk) (desk : Desk) → IsObeying rules self.old (S.shelf shelf.old) clerk desk
-            → IsAnswered rules desk (length (commands clerk.used) + 1) (new_commands rules clerk byte) result
-            (IsObeying rules self.new (S.shelf shelf.new) (clerk_after rules clerk byte)) }
-        ensures over_stays { (rules : Rules) (clerk : Clerk) (desk : Desk) → IsObeying rules self.old (S.shelf shelf.old) clerk desk
-            → is_some clerk.end ≡ true → (self.new ≡ self.old) × (shelf.new ≡ shelf.old) }
+        ensures over { (rules : Rules) (calls : OperatorStream) (state : OperatorState) → IsObeying rules self.old (S.shelf shelf.old) calls state
+            → end_in result ≡ (calls_after rules calls byte).end }
+        ensures answered { (rules : Rules) (calls : OperatorStream) (state : OperatorState) → IsObeying rules self.old (S.shelf shelf.old) calls state
+            → IsAnswered rules state (length (commands calls.used) + 1) (new_commands rules calls byte) result
+            (IsObeying rules self.new (S.shelf shelf.new) (calls_after rules calls byte)) }
+        ensures over_stays { (rules : Rules) (calls : OperatorStream) (state : OperatorState) → IsObeying rules self.old (S.shelf shelf.old) calls state
+            → is_some calls.end ≡ true → (self.new ≡ self.old) × (shelf.new ≡ shelf.old) }
         ensures published { StaysPublished (S.shelf shelf.old) (S.shelf shelf.new) }
     {
         let item = self.wire.push(byte);
@@ -83,9 +83,9 @@ impl Operator {
     // Obeys the command, which is whole. Its large locals stay out of what is called for each byte.
     #[inline(never)]
     fn complete<S: Shelf>(&mut self, shelf: &mut S) -> Done
-        ensures answered { (rules : Rules) (desk : Desk) (command : Command) → IsDesk rules self.old (S.shelf shelf.old) desk (sound_of command)
+        ensures answered { (rules : Rules) (state : OperatorState) (command : Command) → IsAtCommand rules self.old (S.shelf shelf.old) state (sound_of command)
             → Drafts self.old.draft command
-            → IsAnswered rules desk (next_number self.old) (command ∷ []) result (λ now. IsDesk rules self.new (S.shelf shelf.new) now []) }
+            → IsAnswered rules state (next_number self.old) (command ∷ []) result (λ now. IsAtCommand rules self.new (S.shelf shelf.new) now []) }
         ensures kept { self.new ≡ counted self.old self.new.recorder }
         ensures published { StaysPublished (S.shelf shelf.old) (S.shelf shelf.new) }
     {
@@ -108,8 +108,8 @@ impl Operator {
 
     // Stages the open song, which is open no more.
     fn close<S: Shelf>(&mut self, shelf: &mut S) -> What
-        ensures decided { (rules : Rules) (desk : Desk) → IsDesk rules self.old (S.shelf shelf.old) desk []
-            → IsReply rules desk Close result × IsDesk rules self.new (S.shelf shelf.new) (after rules desk Close result) [] }
+        ensures decided { (rules : Rules) (state : OperatorState) → IsAtCommand rules self.old (S.shelf shelf.old) state []
+            → IsReply rules state Close result × IsAtCommand rules self.new (S.shelf shelf.new) (after rules state Close result) [] }
         ensures kept { self.new ≡ record self.old { recorder = self.new.recorder } }
         ensures published { StaysPublished (S.shelf shelf.old) (S.shelf shelf.new) }
     {
@@ -122,8 +122,8 @@ impl Operator {
     /// How the stream ends here: by the fault that it met, with Ended where no byte came or the last command is whole, and
     /// else with Cut. Changes nothing.
     pub fn finish(&mut self) -> OpEnd
-        ensures end { (rules : Rules) (view : ShelfView) (clerk : Clerk) (desk : Desk) → IsObeying rules self.old view clerk desk
-            → result ≡ operator_end_of rules clerk }
+        ensures end { (rules : Rules) (view : ShelfView) (calls : OperatorStream) (state : OperatorState) → IsObeying rules self.old view calls state
+            → result ≡ operator_end_of rules calls }
         ensures changes_nothing { self.new ≡ self.old }
     {
         match self.wire.finish() {
@@ -134,8 +134,8 @@ impl Operator {
 
     /// How many commands were answered, publishes too.
     pub fn commands(&self) -> u64
-        ensures { (rules : Rules) (view : ShelfView) (clerk : Clerk) (desk : Desk) → IsObeying rules self.now view clerk desk
-            → result ≡ length (commands clerk.used) }
+        ensures { (rules : Rules) (view : ShelfView) (calls : OperatorStream) (state : OperatorState) → IsObeying rules self.now view calls state
+            → result ≡ length (commands calls.used) }
     {
         self.commands
     }

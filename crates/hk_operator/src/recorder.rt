@@ -1,6 +1,6 @@
 // The open song: its sound in, its words kept.
 ghost use Rattle.std.specs.Prelude.{◌≡◌, ◌≤◌, ◌^◌, ◌++◌, [], List, ℕ, Option, None, IfOk};
-ghost use Rattle.hk_spec_runs.specs.Desk.{Desk, Recording, answer, after};
+ghost use Rattle.hk_spec_runs.specs.OperatorState.{OperatorState, UnfinishedSong, answer, after};
 ghost use Rattle.hk_spec_settings.specs.Settings.{Rules};
 ghost use Rattle.hk_spec_streams.specs.Operator.{OpenSong, Audio};
 ghost use Rattle.hk_operator.specs.WordBuffer.{no_words};
@@ -53,7 +53,7 @@ impl Recorder {
 
     /// Hears what a byte brings, where it is sound and a song is open.
     pub fn take(&mut self, part: Part)
-        ensures hears { (rules : Rules) (song : Option Recording) (sound : List ℕ) → IsFixed rules → IsRecording rules self.old song sound → IsRecording rules self.new song (sound ++ sound_in part) }
+        ensures hears { (rules : Rules) (song : Option UnfinishedSong) (sound : List ℕ) → IsFixed rules → IsRecording rules self.old song sound → IsRecording rules self.new song (sound ++ sound_in part) }
         ensures room { self.new.words.room ≡ self.old.words.room }
     {
         if let Part::Byte(byte) = part {
@@ -63,7 +63,7 @@ impl Recorder {
 
     // Hears a byte where a song is open.
     fn hear(&mut self, byte: u8)
-        ensures hears { (rules : Rules) (song : Option Recording) (sound : List ℕ) → IsFixed rules → IsRecording rules self.old song sound → IsRecording rules self.new song (sound ++ sound_in (Part.Byte byte)) }
+        ensures hears { (rules : Rules) (song : Option UnfinishedSong) (sound : List ℕ) → IsFixed rules → IsRecording rules self.old song sound → IsRecording rules self.new song (sound ++ sound_in (Part.Byte byte)) }
         ensures room { self.new.words.room ≡ self.old.words.room }
     {
         if self.song.is_none() {
@@ -76,9 +76,9 @@ impl Recorder {
 
     /// Opens a song, or tells that one is open.
     pub fn open(&mut self, id: u32, form: Form) -> What
-        ensures answer { (rules : Rules) (desk : Desk) → IsRecording rules self.old desk.song [] → result ≡ answer rules desk (OpenSong id form) }
-        ensures song { (rules : Rules) (desk : Desk) → IsFixed rules → IsAllowedForm form → IsRecording rules self.old desk.song []
-            → IsRecording rules self.new (after rules desk (OpenSong id form) result).song [] }
+        ensures answer { (rules : Rules) (state : OperatorState) → IsRecording rules self.old state.song [] → result ≡ answer rules state (OpenSong id form) }
+        ensures song { (rules : Rules) (state : OperatorState) → IsFixed rules → IsAllowedForm form → IsRecording rules self.old state.song []
+            → IsRecording rules self.new (after rules state (OpenSong id form) result).song [] }
         ensures room { self.new.words.room ≡ self.old.words.room }
     {
         if self.song.is_some() {
@@ -93,9 +93,9 @@ impl Recorder {
 
     /// What is answered to sound: whether a song is open.
     pub fn audio(&self) -> What
-        ensures answer { (rules : Rules) (desk : Desk) (sound : List ℕ) → IsRecording rules self.now desk.song sound → result ≡ answer rules desk (Audio sound) }
-        ensures song { (rules : Rules) (desk : Desk) (sound : List ℕ) → IsRecording rules self.now desk.song sound
-            → IsRecording rules self.now (after rules desk (Audio sound) result).song [] }
+        ensures answer { (rules : Rules) (state : OperatorState) (sound : List ℕ) → IsRecording rules self.now state.song sound → result ≡ answer rules state (Audio sound) }
+        ensures song { (rules : Rules) (state : OperatorState) (sound : List ℕ) → IsRecording rules self.now state.song sound
+            → IsRecording rules self.now (after rules state (Audio sound) result).song [] }
     {
         if self.song.is_some() {
             What::Done

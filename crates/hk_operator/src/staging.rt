@@ -1,7 +1,7 @@
 // Edits that are staged, or refused with their reason.
 ghost use Rattle.std.specs.Prelude.{◌≡◌, List, ℕ, length, option_map};
 ghost use Rattle.hk_spec_streams.specs.Pieces.{first_that_holds};
-ghost use Rattle.hk_spec_runs.specs.Desk.{Desk, present, refusals, with_edit, added_song};
+ghost use Rattle.hk_spec_runs.specs.OperatorState.{OperatorState, present, refusals, with_edit, added_song};
 ghost use Rattle.hk_spec_settings.specs.Refusals.{add_refusals};
 ghost use Rattle.hk_spec_settings.specs.Settings.{Rules};
 ghost use Rattle.hk_spec_streams.specs.Operator.{Withdraw};
@@ -10,7 +10,7 @@ ghost use Rattle.hk_catalogue.specs.Refusals.{reason_of};
 ghost use Rattle.hk_catalogue.specs.Shelf.{IsChange, refusal_of, with_staged};
 ghost use Rattle.hk_operator.specs.WordBuffer.{Keeps};
 ghost use Rattle.hk_operator.specs.Sound.{IsFixed};
-ghost use Rattle.hk_operator.specs.Desk.{IsAtDesk, IsDecided, StaysPublished};
+ghost use Rattle.hk_operator.specs.OnShelf.{IsOnShelf, IsDecided, StaysPublished};
 
 use crate::word_buffer::WordBuffer;
 use hk_base::{NoMemory, Reason, What};
@@ -48,10 +48,10 @@ fn stage<S: Shelf>(edit: Edit, shelf: &mut S) -> What
 
 /// Stages a song of these words, or tells why it can't be.
 pub fn add<S: Shelf>(alloc: Global, id: u32, words: &WordBuffer, shelf: &mut S) -> What
-    ensures decided { (rules : Rules) (desk : Desk) (all : List ℕ) → IsFixed rules → IsAtDesk rules (S.shelf shelf.old) desk
+    ensures decided { (rules : Rules) (state : OperatorState) (all : List ℕ) → IsFixed rules → IsOnShelf rules (S.shelf shelf.old) state
         → Keeps words.now all → words.now.room ≡ rules.limits.positions
-        → IsDecided (first_that_holds (add_refusals rules (present rules desk) id (length all))) result
-        (IsAtDesk rules (S.shelf shelf.new) desk) (IsAtDesk rules (S.shelf shelf.new) (with_edit rules desk (edits.Add id (added_song rules all)))) }
+        → IsDecided (first_that_holds (add_refusals rules (present rules state) id (length all))) result
+        (IsOnShelf rules (S.shelf shelf.new) state) (IsOnShelf rules (S.shelf shelf.new) (with_edit rules state (edits.Add id (added_song rules all)))) }
     ensures published { StaysPublished (S.shelf shelf.old) (S.shelf shelf.new) }
 {
     if let Err(refused) = shelf.check_add(id, words.count()) {
@@ -65,9 +65,9 @@ pub fn add<S: Shelf>(alloc: Global, id: u32, words: &WordBuffer, shelf: &mut S) 
 
 /// Stages that the song with this id goes, or tells that it isn't there.
 pub fn withdraw<S: Shelf>(id: u32, shelf: &mut S) -> What
-    ensures decided { (rules : Rules) (desk : Desk) → IsFixed rules → IsAtDesk rules (S.shelf shelf.old) desk
-        → IsDecided (first_that_holds (refusals rules desk (Withdraw id))) result
-        (IsAtDesk rules (S.shelf shelf.new) desk) (IsAtDesk rules (S.shelf shelf.new) (with_edit rules desk (edits.Withdraw id))) }
+    ensures decided { (rules : Rules) (state : OperatorState) → IsFixed rules → IsOnShelf rules (S.shelf shelf.old) state
+        → IsDecided (first_that_holds (refusals rules state (Withdraw id))) result
+        (IsOnShelf rules (S.shelf shelf.new) state) (IsOnShelf rules (S.shelf shelf.new) (with_edit rules state (edits.Withdraw id))) }
     ensures published { StaysPublished (S.shelf shelf.old) (S.shelf shelf.new) }
 {
     stage(Edit::Withdraw(id), shelf)

@@ -2,7 +2,7 @@
 ghost use Rattle.std.specs.Prelude.{◌≡◌, ◌≤◌, ◌++◌, [], ◌∷◌, ℕ, List, negsuc, pos, ◌≤ℤ◌, IfSome};
 ghost use Rattle.std.specs.Option.{option_to_list};
 ghost use Rattle.hk_spec_sound.specs.Samples.{samples_of};
-ghost use Rattle.hk_pcm.specs.Reading.{HasTaken};
+ghost use Rattle.hk_pcm.specs.Sampling.{HasTaken};
 
 use crate::mono::mono;
 use std::marker::Model;
@@ -17,9 +17,9 @@ pub struct Pcm {
 
 impl Model for Pcm {
     ghost use Rattle.std.specs.Prelude.{◌≤◌, ◌<◌, ◌*◌, take};
-    ghost use Rattle.hk_pcm.specs.Reading.{Reading};
+    ghost use Rattle.hk_pcm.specs.Sampling.{Sampling};
 
-    ghost Value = { Reading };
+    ghost Value = { Sampling };
 
     ghost view = { λ p. record { channels = p.channels; group = take p.len p.group } };
 

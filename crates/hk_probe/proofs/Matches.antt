@@ -8,9 +8,9 @@ use Rattle.std.proofs.lemmas.Slice.Zip.{length-zip}
 use Rattle.hk_base.specs.declared.plain.Match.{Match}
 use Rattle.hk_base.specs.declared.plain.Print.{Print}
 use Rattle.hk_spec_matching.specs.Catalogue.{Song}
-use Rattle.hk_spec_matching.specs.Matching.{Query, match_at, errors_of, is_hit}
+use Rattle.hk_spec_matching.specs.Matching.{Query, match_at, errors_of, is_hit, query_for}
 use Rattle.hk_catalogue.specs.Shelves.{song_of}
-use Rattle.hk_probe.specs.Comparison.{query_of_prints, first_hit, match_within, first_match_at}
+use Rattle.hk_probe.specs.Comparison.{first_hit, match_within, first_match_at}
 
 pub unequal : (a b : ℕ) → (a ≡ b → ⊥) → (a == b) ≡ false
 unequal a b other = grind (arith, nat_tests)
@@ -26,7 +26,7 @@ match-no_hit query song start none =
     ap (λ b. cond (b && nat_le (errors_of query.prints start.1) song.1.limit) (Some (found (errors_of query.prints start.1))) None) none
 
 match-hit : (prints : List Print) (id start : ℕ) (words whole : List ℕ) → list_any is_hit (zip prints words) ≡ true
-    → match_at (query_of_prints prints) (id, song_of whole) (start, words) ≡ match_within prints id start words
+    → match_at (query_for prints) (id, song_of whole) (start, words) ≡ match_within prints id start words
 unfolding match_at
 match-hit prints id start words whole hit =
     ap (λ b. cond (b && nat_le (errors_of prints words) 2867) (Some (record { id = id; start = start; errors = errors_of prints words })) None) hit
@@ -43,7 +43,7 @@ some_hits prints words low =
 
 -- the match where a print hits
 pub match-first : (prints : List Print) (id start : ℕ) (words whole : List ℕ) → length prints ≡ 256 → length words ≡ 256 → first_hit prints words < 256
-    → match_within prints id start words ≡ match_at (query_of_prints prints) (id, song_of whole) (start, words)
+    → match_within prints id start words ≡ match_at (query_for prints) (id, song_of whole) (start, words)
 match-first prints id start words whole many as_many first =
     sym (match-hit prints id start words whole (some_hits prints words (omega (arith, length-zip prints words))))
 

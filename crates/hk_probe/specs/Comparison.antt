@@ -4,12 +4,8 @@ use Rattle.std.specs.List.{position_or_len}
 use Rattle.hk_base.specs.declared.plain.Print.{Print}
 use Rattle.hk_base.specs.declared.plain.Match.{Match}
 use Rattle.hk_spec_matching.specs.Catalogue.{Song}
-use Rattle.hk_spec_matching.specs.Matching.{Query, match_at, is_hit, errors_of, MOST_ERRORS}
+use Rattle.hk_spec_matching.specs.Matching.{Query, match_at, is_hit, errors_of, MOST_ERRORS, query_for}
 use Rattle.hk_catalogue.specs.Shelves.{song_of}
-
--- prints that are looked up
-abbrev pub query_of_prints : List Print → Query
-query_of_prints prints = record { prints = prints }
 
 -- the first print that hits, and the number of prints where none does
 abbrev pub first_hit : List Print → List ℕ → ℕ
@@ -27,9 +23,9 @@ first_match_at query j song start = if first_hit query.prints start.1 == j then 
 
 -- the match of prints at a start of a song, whose words from there on are these. What stands elsewhere in the song is no matter.
 abbrev pub IsMatchAt : List Print → ℕ → ℕ → List ℕ → Option Match → Type 0
-IsMatchAt prints id start words found = (whole : List ℕ) → found ≡ match_at (query_of_prints prints) (id, song_of whole) (start, words)
+IsMatchAt prints id start words found = (whole : List ℕ) → found ≡ match_at (query_for prints) (id, song_of whole) (start, words)
 
 -- the same, where this print is the first that hits
 abbrev pub IsFirstMatchAt : List Print → ℕ → ℕ → ℕ → List ℕ → Option Match → Type 0
 IsFirstMatchAt prints j id start words found =
-    (whole : List ℕ) → found ≡ first_match_at (query_of_prints prints) j (id, song_of whole) (start, words)
+    (whole : List ℕ) → found ≡ first_match_at (query_for prints) j (id, song_of whole) (start, words)

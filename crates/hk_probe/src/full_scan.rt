@@ -1,10 +1,9 @@
 // A block against every start of every song.
 ghost use Rattle.std.specs.Prelude.{◌≡◌, ◌≤◌, ◌+◌, ◌++◌, length, IsTrue};
-ghost use Rattle.hk_spec_matching.specs.Matching.{matches_of_song};
+ghost use Rattle.hk_spec_matching.specs.Matching.{matches_of_song, query_for};
 ghost use Rattle.hk_block.specs.Ring.{is_full};
 ghost use Rattle.hk_block.specs.Looker.{matches_in};
 ghost use Rattle.hk_catalogue.specs.Shelves.{songs_of, entry_of};
-ghost use Rattle.hk_probe.specs.Comparison.{query_of_prints};
 
 use crate::comparison::{BLOCK_SIZE, Block, match_at};
 use hk_base::Steps;
@@ -37,7 +36,7 @@ pub fn scan<L: Ledger>(
 // Appends the matches in one song.
 fn list_song<L: Ledger>(song: &Song<'_>, block: &Block, scratch: &mut Scratch, steps: &mut Steps<L>)
     requires space { length scratch.old.matches + length song.now.words ≤ scratch.old.room }
-    ensures list { scratch.new.matches ≡ scratch.old.matches ++ matches_of_song (query_of_prints block.now.prints) (entry_of song.now) }
+    ensures list { scratch.new.matches ≡ scratch.old.matches ++ matches_of_song (query_for block.now.prints) (entry_of song.now) }
     ensures count { length scratch.new.matches ≤ length scratch.old.matches + length song.now.words }
     ensures room { scratch.new.room ≡ scratch.old.room }
 {

@@ -5,7 +5,7 @@ ghost use Rattle.hk_block.specs.Ring.{is_full};
 ghost use Rattle.hk_block.specs.Looker.{query_of, matches_in};
 ghost use Rattle.hk_catalogue.specs.Shelves.{songs_of};
 ghost use Rattle.hk_catalogue.specs.CatalogueInside.{IsShelved};
-ghost use Rattle.hk_probe.specs.Comparison.{query_of_prints};
+ghost use Rattle.hk_spec_matching.specs.Matching.{query_for};
 ghost use Rattle.hk_probe.specs.Search.{found_at, found_of, found_by, numbered, nodes_of, nodes_by, HaveSame};
 
 use crate::comparison::{BLOCK_SIZE, Block, first_match_at};
@@ -54,8 +54,8 @@ fn look_up_print<L: Ledger>(
 )
     requires shelved { IsShelved catalogue.now }
     requires inside { j < 256 }
-    requires space { length scratch.old.matches + length (found_by (query_of_prints block.now.prints) (songs_of catalogue.now) (numbered j block.now.prints)) ≤ scratch.old.room }
-    ensures found { HaveSame scratch.new.matches (scratch.old.matches ++ found_by (query_of_prints block.now.prints) (songs_of catalogue.now) (numbered j block.now.prints)) }
+    requires space { length scratch.old.matches + length (found_by (query_for block.now.prints) (songs_of catalogue.now) (numbered j block.now.prints)) ≤ scratch.old.room }
+    ensures found { HaveSame scratch.new.matches (scratch.old.matches ++ found_by (query_for block.now.prints) (songs_of catalogue.now) (numbered j block.now.prints)) }
     ensures room { scratch.new.room ≡ scratch.old.room }
     ensures ticks { steps.new ≤ steps.old + 257 * nodes_by catalogue.now.store.positions (songs_of catalogue.now) (numbered j block.now.prints).1 }
 {
@@ -85,8 +85,8 @@ fn look_up_word<L: Ledger>(
 )
     requires shelved { IsShelved catalogue.now }
     requires inside { j < 256 }
-    requires space { length scratch.old.matches + length (found_of (query_of_prints block.now.prints) (songs_of catalogue.now) j word) ≤ scratch.old.room }
-    ensures found { HaveSame scratch.new.matches (scratch.old.matches ++ found_of (query_of_prints block.now.prints) (songs_of catalogue.now) j word) }
+    requires space { length scratch.old.matches + length (found_of (query_for block.now.prints) (songs_of catalogue.now) j word) ≤ scratch.old.room }
+    ensures found { HaveSame scratch.new.matches (scratch.old.matches ++ found_of (query_for block.now.prints) (songs_of catalogue.now) j word) }
     ensures room { scratch.new.room ≡ scratch.old.room }
     ensures ticks { steps.new ≤ steps.old + 257 * nodes_of catalogue.now.store.positions (songs_of catalogue.now) word }
 {
@@ -108,7 +108,7 @@ fn found_at<L: Ledger>(
     steps: &mut Steps<L>,
 ) -> Option<Match>
     requires { j < 256 }
-    ensures found { result ≡ found_at (query_of_prints block.now.prints) catalogue.now.store j place }
+    ensures found { result ≡ found_at (query_for block.now.prints) catalogue.now.store j place }
     ensures ticks { steps.new ≤ steps.old + 256 }
 {
     let song = catalogue.song(place.slot)?;

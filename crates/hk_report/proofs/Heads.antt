@@ -8,7 +8,7 @@ use Rattle.hk_base.specs.declared.plain.Match.{Match}
 use Rattle.hk_spec_lines.specs.Lines.{NEWLINE, line, list_text}
 use Rattle.hk_report.specs.Pieces.{head_text}
 use Rattle.hk_report.specs.Reports.{HeadFits, ItemFits, IsReportOf, IsReport}
-use Rattle.hk_report.specs.Reading.{IsDigit, IsCut, StopsBefore, LeavesWord, LeavesField, Behind, Numeral, Field, IsList, AreFields, MOST_8, MOST_32, MOST_64}
+use Rattle.hk_report.specs.LineReading.{IsDigit, IsCut, StopsBefore, LeavesWord, LeavesField, Behind, Numeral, Field, IsList, AreFields, MOST_8, MOST_32, MOST_64}
 use Rattle.hk_report.proofs.Numbers.{split_number}
 use Rattle.hk_report.proofs.Stopping.{FollowsNumber, behind_follows, field_follows, same_kind, stops_in_field, stops_after_field, stops_in_behind, stops_behind_front}
 use Rattle.hk_report.proofs.Items.{not_digit, same_list}

@@ -8,7 +8,7 @@ use Rattle.hk_base.specs.declared.plain.Match.{Match}
 use Rattle.hk_spec_lines.specs.Lines.{NEWLINE, match_text, list_text}
 use Rattle.hk_report.specs.Pieces.{further_items}
 use Rattle.hk_report.specs.Reports.{ItemFits}
-use Rattle.hk_report.specs.Reading.{IsDigit, IsCut, GoesOn, Differs, StopsBefore, Numeral, Field, Item, AreFurther, IsList, MOST_32}
+use Rattle.hk_report.specs.LineReading.{IsDigit, IsCut, GoesOn, Differs, StopsBefore, Numeral, Field, Item, AreFurther, IsList, MOST_32}
 use Rattle.hk_report.proofs.Numbers.{split_number, not_cut, heads, tails}
 use Rattle.hk_report.proofs.Stopping.{FollowsNumber, field_follows, another_byte, stops_among, stops_behind_front, still_cut}
 

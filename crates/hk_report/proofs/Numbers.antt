@@ -8,7 +8,7 @@ use Rattle.std.proofs.lemmas.Int.Digits.{digits_value_push}
 use Rattle.std.proofs.lemmas.Str.Parse.{digits_value-take-le}
 use Rattle.std.proofs.Math.Seq.{take-append_seam}
 use Rattle.std.proofs.lemmas.Bool.Decides.{nat_tests}
-use Rattle.hk_report.specs.Reading.{IsDigit, IsCut}
+use Rattle.hk_report.specs.LineReading.{IsDigit, IsCut}
 
 abbrev pub AreDigits : List ℕ → Type 0
 AreDigits [] = Unit {0}

@@ -3,7 +3,7 @@ use Rattle.std.proofs.Common.{◌≡◌, ℕ, ◌+◌, ◌-◌, ◌<◌, ◌≤�
 use Rattle.std.proofs.lemmas.List.{take-append-drop, take-append-le}
 use Rattle.std.proofs.Math.Seq.{take-append-add}
 use Rattle.hk_report.specs.Reports.{IsReport, Begins, IsBadPlace}
-use Rattle.hk_report.specs.Reading.{Stops, StopsBefore}
+use Rattle.hk_report.specs.LineReading.{Stops, StopsBefore}
 
 -- what begins a text of a kind, its fronts begin too
 front_begins : (K : List ℕ → Type 0) (good left : List ℕ) (n : ℕ) → n ≤ length good → Begins K good → Begins K (take n (good ++ left))

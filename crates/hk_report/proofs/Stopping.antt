@@ -3,7 +3,7 @@ use Rattle.std.proofs.Common.{◌≡◌, ℕ, ◌+◌, ◌^◌, ◌<◌, ◌≤�
 use Rattle.std.specs.Result.{IsErrAnd}
 use Rattle.std.specs.Fmt.{decimal}
 use Rattle.std.proofs.lemmas.List.{append_cancel_left}
-use Rattle.hk_report.specs.Reading.{IsDigit, IsCut, GoesOn, Stops, StopsBefore, Differs, LeavesWord, LeavesNumber, LeavesField, Behind, Numeral, Field}
+use Rattle.hk_report.specs.LineReading.{IsDigit, IsCut, GoesOn, Stops, StopsBefore, Differs, LeavesWord, LeavesNumber, LeavesField, Behind, Numeral, Field}
 use Rattle.hk_report.specs.declared.read.Misfit.{Misfit}
 use Rattle.hk_report.proofs.Numbers.{split_number, digit_too_many, not_cut}
 

@@ -1,3 +1,3 @@
 pub mod Pieces
 pub mod Reports
-pub mod Reading
+pub mod LineReading

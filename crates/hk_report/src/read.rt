@@ -1,6 +1,6 @@
 // Words, numbers and fields, each at the front of the bytes that are left.
 ghost use Rattle.std.specs.Prelude.{◌≡◌, ◌+◌, ◌*◌, ◌<◌, ◌≤◌, ◌∷◌, ◌++◌, ℕ, List, decimal, IfOk, IfErr, MatchOption, ◌⊎◌};
-ghost use Rattle.hk_report.specs.Reading.{IsCut, LeavesWord, LeavesNumber, LeavesField, StopsBefore, Differs};
+ghost use Rattle.hk_report.specs.LineReading.{IsCut, LeavesWord, LeavesNumber, LeavesField, StopsBefore, Differs};
 ghost use Rattle.std.specs.Bool.{MatchBool};
 
 // What is left of the bytes from the first one on that can't stand there.

@@ -7,7 +7,7 @@ ghost use Rattle.hk_base.specs.declared.plain.Match.{Match as AMatch};
 ghost use Rattle.hk_spec_lines.specs.Lines.{match_text, list_text, NEWLINE};
 ghost use Rattle.hk_report.specs.Pieces.{head_text, further_items};
 ghost use Rattle.hk_report.specs.Reports.{HeadFits, ItemFits, IsReportOf, IsReport, IsBadPlace};
-ghost use Rattle.hk_report.specs.Reading.{IsCut, Item, AreFurther, IsList, StopsBefore};
+ghost use Rattle.hk_report.specs.LineReading.{IsCut, Item, AreFurther, IsList, StopsBefore};
 
 use crate::read::{Misfit, comes_next, read_field, read_last, read_word};
 use hk_base::{Head, Match};

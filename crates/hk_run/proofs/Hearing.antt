@@ -12,7 +12,7 @@ use Rattle.hk_spec_streams.specs.Blocks.{blocks}
 use Rattle.hk_spec_streams.specs.Records.{ForStation}
 use Rattle.hk_spec_matching.specs.Catalogue.{Songs, version}
 use Rattle.hk_spec_lines.specs.Lines.{printed_text}
-use Rattle.hk_spec_runs.specs.Desk.{Desk}
+use Rattle.hk_spec_runs.specs.OperatorState.{OperatorState}
 use Rattle.hk_spec_settings.specs.Settings.{Rules}
 use Rattle.hk_spec_runs.specs.Replay.{Listener, Scene, arrived, for_station, reports, report, heard}
 use Rattle.hk_block.specs.Looker.{ShelfView}
@@ -35,78 +35,78 @@ use Rattle.hk_base.proofs.Taking.{Wrote-nothing}
 -- a byte for a station that is there
 pub station_scene : (rules : Rules) (refused : List ℕ) (scene : Scene) (k byte : ℕ) (l : Listener) → slice_get scene.listeners k ≡ Some l
     → arrived rules refused scene (ForStation k byte)
-    ≡ record scene { listeners = slice_set scene.listeners k (next rules (length scene.desk.journal) l byte); printed = scene.printed ++ reports rules k scene.desk.journal l (next rules (length scene.desk.journal) l byte) }
+    ≡ record scene { listeners = slice_set scene.listeners k (next rules (length scene.state.journal) l byte); printed = scene.printed ++ reports rules k scene.state.journal l (next rules (length scene.state.journal) l byte) }
 station_scene rules refused scene k byte l is = ap (for_station rules scene k byte) is
 
 -- a byte for a station touches neither the operator nor the list of refused commands
-pub same_clerk : (rules : Rules) (scene : Scene) (k byte : ℕ) (o : Option Listener) → (for_station rules scene k byte o).clerk ≡ scene.clerk
+pub same_clerk : (rules : Rules) (scene : Scene) (k byte : ℕ) (o : Option Listener) → (for_station rules scene k byte o).calls ≡ scene.calls
 same_clerk rules scene k byte None = refl
 same_clerk rules scene k byte (Some l) = refl
 
-no_reports : (rules : Rules) (k : ℕ) (desk : Desk) (l : Listener) → reports rules k desk.journal l l ≡ []
-no_reports rules k desk l = ap (λ t. map (report rules k desk.journal (length desk.journal)) (cond t (enumerate_from (length (blocks rules.setting l.used)) (completed (blocks rules.setting) l.used)) [])) (le-ltb (length l.used) (length l.used) (omega arith))
+no_reports : (rules : Rules) (k : ℕ) (state : OperatorState) (l : Listener) → reports rules k state.journal l l ≡ []
+no_reports rules k state l = ap (λ t. map (report rules k state.journal (length state.journal)) (cond t (enumerate_from (length (blocks rules.setting l.used)) (completed (blocks rules.setting) l.used)) [])) (le-ltb (length l.used) (length l.used) (omega arith))
 
 module _ (rules : Rules) (scene : Scene) (run : Run) (k byte : ℕ) (station : Station) (h : Holds rules run scene) (at : Found rules 0 station scene.listeners k) where
   number_is : number_of station ≡ k
   number_is = omega (arith, at.number)
 
   pub scene_heard : (refused : List ℕ) → arrived rules refused scene (ForStation k byte)
-      ≡ record scene { listeners = slice_set scene.listeners k (next rules (length scene.desk.journal) at.listener byte); printed = scene.printed ++ reports rules k scene.desk.journal at.listener (next rules (length scene.desk.journal) at.listener byte) }
+      ≡ record scene { listeners = slice_set scene.listeners k (next rules (length scene.state.journal) at.listener byte); printed = scene.printed ++ reports rules k scene.state.journal at.listener (next rules (length scene.state.journal) at.listener byte) }
   scene_heard refused = station_scene rules refused scene k byte at.listener at.there
 
   -- a station that is over skips the byte
-  over_next : (end : End) → station.end ≡ Some end → next rules (length scene.desk.journal) at.listener byte ≡ at.listener
-  over_next end over = ap (λ o. cond (is_some o) at.listener (heard rules (length scene.desk.journal) at.listener byte)) (sym at.hears.end_is ∙ over)
+  over_next : (end : End) → station.end ≡ Some end → next rules (length scene.state.journal) at.listener byte ≡ at.listener
+  over_next end over = ap (λ o. cond (is_some o) at.listener (heard rules (length scene.state.journal) at.listener byte)) (sym at.hears.end_is ∙ over)
 
   pub holds_skipped : (end : End) → station.end ≡ Some end → (refused : List ℕ) (run' : Run) → run'.stations.items ≡ slice_set run.stations.items k station → run'.operator ≡ run.operator → run'.catalogue ≡ run.catalogue
       → Holds rules run' (arrived rules refused scene (ForStation k byte))
   holds_skipped end over refused run' stations operators catalogues =
       subst (λ (s : Scene). Holds rules run' s) (sym (scene_heard refused)) (record {
-        hears = subst (λ ss. AreHearing rules 0 ss (slice_set scene.listeners k (next rules (length scene.desk.journal) at.listener byte))) (sym stations)
+        hears = subst (λ ss. AreHearing rules 0 ss (slice_set scene.listeners k (next rules (length scene.state.journal) at.listener byte))) (sym stations)
             (exchanged rules 0 run.stations.items scene.listeners k station _ h.hears (subst (IsHearing rules station) (sym (over_next end over)) at.hears) at.number);
-        obeys = subst (λ o. IsObeying rules o (shelf_of run'.catalogue) scene.clerk scene.desk) (sym operators)
-            (subst (λ (s : Single). IsObeying rules run.operator (shelf_of s) scene.clerk scene.desk) (sym catalogues) h.obeys);
+        obeys = subst (λ o. IsObeying rules o (shelf_of run'.catalogue) scene.calls scene.state) (sym operators)
+            (subst (λ (s : Single). IsObeying rules run.operator (shelf_of s) scene.calls scene.state) (sym catalogues) h.obeys);
       })
 
   pub adds_skipped : (end : End) → station.end ≡ Some end → (refused : List ℕ) (w : Option (List ℕ)) → AddsScene scene (arrived rules refused scene (ForStation k byte)) w w
   adds_skipped end over refused w = (
     [],
     ap (λ (s : Scene). s.printed) (scene_heard refused)
-        ∙ ap (λ l. scene.printed ++ reports rules k scene.desk.journal at.listener l) (over_next end over)
-        ∙ ap (λ ps. scene.printed ++ ps) (no_reports rules k scene.desk at.listener),
+        ∙ ap (λ l. scene.printed ++ reports rules k scene.state.journal at.listener l) (over_next end over)
+        ∙ ap (λ ps. scene.printed ++ ps) (no_reports rules k scene.state at.listener),
     Wrote-nothing w,
   )
 
   -- one that goes on hears it at the catalogue's version
   module _ (alone : Single) (versions : alone.version ≡ run.catalogue.version) (songs : alone.songs ≡ run.catalogue.songs) (shelf : shelf_of alone ≡ shelf_of run.catalogue) where
-    at_is : alone.version ≡ length scene.desk.journal
+    at_is : alone.version ≡ length scene.state.journal
     at_is = versions ∙ ap (λ p. p.0) h.obeys.shelf.base
 
-    songs_are : alone.songs ≡ version rules.limits scene.desk.journal (length scene.desk.journal)
+    songs_are : alone.songs ≡ version rules.limits scene.state.journal (length scene.state.journal)
     songs_are = songs ∙ ap (λ p. p.1) h.obeys.shelf.base
 
     lines_are : lines_gained rules (number_of station) alone.version alone.songs at.listener byte
-        ≡ flat_map printed_text (reports rules k scene.desk.journal at.listener (next rules (length scene.desk.journal) at.listener byte))
+        ≡ flat_map printed_text (reports rules k scene.state.journal at.listener (next rules (length scene.state.journal) at.listener byte))
     unfolding report
     lines_are =
         ap (λ n. lines_gained rules n alone.version alone.songs at.listener byte) number_is
         ∙ ap (λ v. lines_gained rules k v alone.songs at.listener byte) at_is
-        ∙ ap (λ (s : Songs). lines_gained rules k (length scene.desk.journal) s at.listener byte) songs_are
+        ∙ ap (λ (s : Songs). lines_gained rules k (length scene.state.journal) s at.listener byte) songs_are
 
     pub holds_heard : (refused : List ℕ) (station' : Station) (run' : Run) → run'.stations.items ≡ slice_set run.stations.items k station' → run'.operator ≡ run.operator → run'.catalogue ≡ alone
         → number_of station' ≡ number_of station → IsHearing rules station' (next rules alone.version at.listener byte) → Holds rules run' (arrived rules refused scene (ForStation k byte))
     holds_heard refused station' run' stations operators catalogues numbers hears =
         subst (λ (s : Scene). Holds rules run' s) (sym (scene_heard refused)) (record {
-          hears = subst (λ ss. AreHearing rules 0 ss (slice_set scene.listeners k (next rules (length scene.desk.journal) at.listener byte))) (sym stations)
+          hears = subst (λ ss. AreHearing rules 0 ss (slice_set scene.listeners k (next rules (length scene.state.journal) at.listener byte))) (sym stations)
               (exchanged rules 0 run.stations.items scene.listeners k station' _ h.hears (subst (λ v. IsHearing rules station' (next rules v at.listener byte)) at_is hears) (numbers ∙ at.number));
-          obeys = subst (λ o. IsObeying rules o (shelf_of run'.catalogue) scene.clerk scene.desk) (sym operators)
-              (subst (λ (v : ShelfView). IsObeying rules run.operator v scene.clerk scene.desk) (sym (ap shelf_of catalogues ∙ shelf)) h.obeys);
+          obeys = subst (λ o. IsObeying rules o (shelf_of run'.catalogue) scene.calls scene.state) (sym operators)
+              (subst (λ (v : ShelfView). IsObeying rules run.operator v scene.calls scene.state) (sym (ap shelf_of catalogues ∙ shelf)) h.obeys);
         })
 
     pub adds_lines : (refused text : List ℕ) (w y : Option (List ℕ)) → text ≡ lines_gained rules (number_of station) alone.version alone.songs at.listener byte ++ [] → Wrote text w y
         → AddsScene scene (arrived rules refused scene (ForStation k byte)) w y
     adds_lines refused text w y is wrote = (
-      reports rules k scene.desk.journal at.listener (next rules (length scene.desk.journal) at.listener byte),
+      reports rules k scene.state.journal at.listener (next rules (length scene.state.journal) at.listener byte),
       ap (λ (s : Scene). s.printed) (scene_heard refused),
       subst (λ (t : List ℕ). Wrote t w y) (is ∙ append-nil _ ∙ lines_are) wrote,
     )
@@ -114,7 +114,7 @@ module _ (rules : Rules) (scene : Scene) (run : Run) (k byte : ℕ) (station : S
     pub adds_front : (refused line : List ℕ) (w y : Option (List ℕ)) → line ≡ lines_gained rules (number_of station) alone.version alone.songs at.listener byte → WroteFront line w y
         → AddsSceneFront scene (arrived rules refused scene (ForStation k byte)) w y
     adds_front refused line w y is front = (
-      reports rules k scene.desk.journal at.listener (next rules (length scene.desk.journal) at.listener byte),
+      reports rules k scene.state.journal at.listener (next rules (length scene.state.journal) at.listener byte),
       ap (λ (s : Scene). s.printed) (scene_heard refused),
       subst (λ (t : List ℕ). WroteFront t w y) (is ∙ lines_are) front,
     )

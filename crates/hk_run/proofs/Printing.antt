@@ -28,7 +28,7 @@ module _ (rules : Rules) (refused : List ℕ) where
   unfolding Prints
   obeyed_prints scene [] = ([], sym (append-nil scene.printed))
   obeyed_prints scene (c ∷ cs) =
-      let reply : What = reply_to rules refused c.0 scene.desk c.1 in
+      let reply : What = reply_to rules refused c.0 scene.state c.1 in
       let later = obeyed_prints (obeyed rules refused scene c) cs in
       (Replied c.0 reply ∷ later.0, later.1 ∙ append_assoc scene.printed (Replied c.0 reply ∷ []) later.0)
 
@@ -36,17 +36,17 @@ module _ (rules : Rules) (refused : List ℕ) where
   unfolding Prints
   arrived_prints scene (ForStation n b) = elim (slice_get scene.listeners n) as (λ o. Prints scene (for_station rules scene n b o)) [
     | None ↦ ([], sym (append-nil scene.printed))
-    | Some l ↦ (reports rules n scene.desk.journal l (if is_some l.end then l else heard rules (length scene.desk.journal) l b), refl)
+    | Some l ↦ (reports rules n scene.state.journal l (if is_some l.end then l else heard rules (length scene.state.journal) l b), refl)
   ]
   arrived_prints scene (ForOperator b) =
-      let used : List ℕ = scene.clerk.used ++ b ∷ [] in
-      let quiet : Scene = record scene { clerk = record { used = used; end = None } } in
-      let going : Scene = fold (obeyed rules refused) quiet (enumerate_from (length (commands scene.clerk.used) + 1) (completed commands used)) in
-      let over : WireFault → Scene = λ fault. record scene { clerk = record { used = scene.clerk.used; end = Some (op_ends.Wire fault) } } in
-      elim (is_some scene.clerk.end) as (λ t. Prints scene (cond t scene (option_map_or over (operator_met rules.bytes used) going))) [
+      let used : List ℕ = scene.calls.used ++ b ∷ [] in
+      let quiet : Scene = record scene { calls = record { used = used; end = None } } in
+      let going : Scene = fold (obeyed rules refused) quiet (enumerate_from (length (commands scene.calls.used) + 1) (completed commands used)) in
+      let over : WireFault → Scene = λ fault. record scene { calls = record { used = scene.calls.used; end = Some (op_ends.Wire fault) } } in
+      elim (is_some scene.calls.end) as (λ t. Prints scene (cond t scene (option_map_or over (operator_met rules.bytes used) going))) [
         | true ↦ ([], sym (append-nil scene.printed))
         | false ↦ elim (operator_met rules.bytes used) as (λ o. Prints scene (option_map_or over o going)) [
-          | None ↦ obeyed_prints quiet (enumerate_from (length (commands scene.clerk.used) + 1) (completed commands used))
+          | None ↦ obeyed_prints quiet (enumerate_from (length (commands scene.calls.used) + 1) (completed commands used))
           | Some fault ↦ ([], sym (append-nil scene.printed))
         ]
       ]

@@ -11,13 +11,13 @@ use Rattle.hk_spec_streams.specs.Pieces.{first_that_holds, is_one_of, pieces_wit
 use Rattle.hk_spec_streams.specs.Operator.{Command, commands}
 use Rattle.hk_spec_streams.specs.Records.{ForStation, ForOperator, arrivals}
 use Rattle.hk_spec_lines.specs.Lines.{Replied}
-use Rattle.hk_spec_runs.specs.Desk.{refusals, answer, after, IsReply}
+use Rattle.hk_spec_runs.specs.OperatorState.{refusals, answer, after, IsReply}
 use Rattle.hk_spec_settings.specs.Settings.{Rules}
-use Rattle.hk_spec_runs.specs.Replay.{Scene, Clerk, arrived, obeyed}
-use Rattle.hk_operator.specs.Obeying.{clerk_after, new_commands}
+use Rattle.hk_spec_runs.specs.Replay.{Scene, OperatorStream, arrived, obeyed}
+use Rattle.hk_operator.specs.Obeying.{calls_after, new_commands}
 use Rattle.hk_operator.proofs.Joining.{for_operator_is}
 use Rattle.hk_run.specs.Course.{scene_after}
-use Rattle.hk_run.specs.Holding.{with_clerk}
+use Rattle.hk_run.specs.Holding.{with_calls}
 use Rattle.hk_run.specs.Playing.{Agree, IsSettled}
 use Rattle.hk_run.proofs.Hearing.{same_clerk}
 use Rattle.hk_run.proofs.Obeying.{counts}
@@ -29,7 +29,7 @@ none_settled rules = record { none_ahead = λ m ahead. refl; same = λ others ag
 
 -- the number of commands so far
 abbrev pub so_far : Scene → ℕ
-so_far scene = length (commands scene.clerk.used)
+so_far scene = length (commands scene.calls.used)
 
 module _ (rules : Rules) (refused text : List ℕ) (settled : IsSettled rules refused text) where
   -- where the next scene is the same for all lists that refuse the same of the commands that came by then
@@ -50,42 +50,42 @@ module _ (rules : Rules) (refused text : List ℕ) (settled : IsSettled rules re
   pub station_settled : (longer : List ℕ) (k c : ℕ) → ((r : List ℕ) → scene_after rules r longer ≡ arrived rules r (scene_after rules r text) (ForStation k c)) → IsSettled rules refused longer
   station_settled longer k c is =
       let next : Scene = arrived rules refused (scene_after rules refused text) (ForStation k c) in
-      let clerk : next.clerk ≡ (scene_after rules refused text).clerk = same_clerk rules (scene_after rules refused text) k c (slice_get (scene_after rules refused text).listeners k) in
+      let calls : next.calls ≡ (scene_after rules refused text).calls = same_clerk rules (scene_after rules refused text) k c (slice_get (scene_after rules refused text).listeners k) in
       settles longer next refused
       (λ others agree. is others ∙ ap (λ (s : Scene). arrived rules refused s (ForStation k c))
-      (settled.same others (subst (λ (clerk : Clerk). Agree (length (commands clerk.used)) others refused) clerk agree)))
-      (subst (λ (clerk : Clerk). (m : ℕ) → length (commands clerk.used) < m → is_one_of refused m ≡ false) (sym clerk) settled.none_ahead)
+      (settled.same others (subst (λ (calls : OperatorStream). Agree (length (commands calls.used)) others refused) calls agree)))
+      (subst (λ (calls : OperatorStream). (m : ℕ) → length (commands calls.used) < m → is_one_of refused m ≡ false) (sym calls) settled.none_ahead)
 
   module _ (longer : List ℕ) (c : ℕ) (is : (r : List ℕ) → scene_after rules r longer ≡ arrived rules r (scene_after rules r text) (ForOperator c)) where
     -- a byte that ends no command
-    quiet_scene : (r : List ℕ) → new_commands rules (scene_after rules refused text).clerk c ≡ []
-        → arrived rules r (scene_after rules refused text) (ForOperator c) ≡ with_clerk (scene_after rules refused text) (clerk_after rules (scene_after rules refused text).clerk c)
+    quiet_scene : (r : List ℕ) → new_commands rules (scene_after rules refused text).calls c ≡ []
+        → arrived rules r (scene_after rules refused text) (ForOperator c) ≡ with_calls (scene_after rules refused text) (calls_after rules (scene_after rules refused text).calls c)
     quiet_scene r none =
         for_operator_is rules r (scene_after rules refused text) c
-        ∙ ap (λ cs. fold (obeyed rules r) (with_clerk (scene_after rules refused text) (clerk_after rules (scene_after rules refused text).clerk c)) (enumerate_from (so_far (scene_after rules refused text) + 1) cs)) none
+        ∙ ap (λ cs. fold (obeyed rules r) (with_calls (scene_after rules refused text) (calls_after rules (scene_after rules refused text).calls c)) (enumerate_from (so_far (scene_after rules refused text) + 1) cs)) none
 
-    pub quiet_is : new_commands rules (scene_after rules refused text).clerk c ≡ []
-        → scene_after rules refused longer ≡ with_clerk (scene_after rules refused text) (clerk_after rules (scene_after rules refused text).clerk c)
+    pub quiet_is : new_commands rules (scene_after rules refused text).calls c ≡ []
+        → scene_after rules refused longer ≡ with_calls (scene_after rules refused text) (calls_after rules (scene_after rules refused text).calls c)
     quiet_is none = is refused ∙ quiet_scene refused none
 
-    pub quiet_settled : new_commands rules (scene_after rules refused text).clerk c ≡ [] → IsSettled rules refused longer
+    pub quiet_settled : new_commands rules (scene_after rules refused text).calls c ≡ [] → IsSettled rules refused longer
     quiet_settled none =
-        let sum : so_far (scene_after rules refused text) + length (new_commands rules (scene_after rules refused text).clerk c) ≡ length (commands (clerk_after rules (scene_after rules refused text).clerk c).used) =
-        counts rules (scene_after rules refused text).clerk c in
-        settles longer (with_clerk (scene_after rules refused text) (clerk_after rules (scene_after rules refused text).clerk c)) refused
+        let sum : so_far (scene_after rules refused text) + length (new_commands rules (scene_after rules refused text).calls c) ≡ length (commands (calls_after rules (scene_after rules refused text).calls c).used) =
+        counts rules (scene_after rules refused text).calls c in
+        settles longer (with_calls (scene_after rules refused text) (calls_after rules (scene_after rules refused text).calls c)) refused
         (λ others agree. is others ∙ ap (λ (s : Scene). arrived rules others s (ForOperator c)) (settled.same others (λ m within. agree m (omega (arith, within, sum)))) ∙ quiet_scene others none)
         (λ m ahead. settled.none_ahead m (omega (arith, ahead, sum)))
 
     -- a byte that ends a command
-    module _ (command : Command) (one : new_commands rules (scene_after rules refused text).clerk c ≡ command ∷ []) where
+    module _ (command : Command) (one : new_commands rules (scene_after rules refused text).calls c ≡ command ∷ []) where
       -- the reply, by whether the command is refused for memory
       reply_by : Bool → What
-      reply_by t = cond (t && not (is_some (first_that_holds (refusals rules (scene_after rules refused text).desk command)))) (Refused NoMemory) (answer rules (scene_after rules refused text).desk command)
+      reply_by t = cond (t && not (is_some (first_that_holds (refusals rules (scene_after rules refused text).state command)))) (Refused NoMemory) (answer rules (scene_after rules refused text).state command)
 
       after_reply : What → Scene
       after_reply reply = record (scene_after rules refused text) {
-        clerk = clerk_after rules (scene_after rules refused text).clerk c;
-        desk = after rules (scene_after rules refused text).desk command reply;
+        calls = calls_after rules (scene_after rules refused text).calls c;
+        state = after rules (scene_after rules refused text).state command reply;
         printed = (scene_after rules refused text).printed ++ Replied (so_far (scene_after rules refused text) + 1) reply ∷ [];
       }
 
@@ -94,11 +94,11 @@ module _ (rules : Rules) (refused text : List ℕ) (settled : IsSettled rules re
       unfolding after_reply reply_by
       command_scene r reply replies =
           for_operator_is rules r (scene_after rules refused text) c
-          ∙ ap (λ cs. fold (obeyed rules r) (with_clerk (scene_after rules refused text) (clerk_after rules (scene_after rules refused text).clerk c)) (enumerate_from (so_far (scene_after rules refused text) + 1) cs)) one
+          ∙ ap (λ cs. fold (obeyed rules r) (with_calls (scene_after rules refused text) (calls_after rules (scene_after rules refused text).calls c)) (enumerate_from (so_far (scene_after rules refused text) + 1) cs)) one
           ∙ ap after_reply replies
 
-      one_more : so_far (scene_after rules refused text) + 1 ≡ length (commands (clerk_after rules (scene_after rules refused text).clerk c).used)
-      one_more = ap (λ cs. so_far (scene_after rules refused text) + length cs) (sym one) ∙ counts rules (scene_after rules refused text).clerk c
+      one_more : so_far (scene_after rules refused text) + 1 ≡ length (commands (calls_after rules (scene_after rules refused text).calls c).used)
+      one_more = ap (λ cs. so_far (scene_after rules refused text) + length cs) (sym one) ∙ counts rules (scene_after rules refused text).calls c
 
       -- A list that refuses this command where the reply says so, and else what the list did.
       record Choice (reply : What) (r : List ℕ) : Type 0 where
@@ -106,10 +106,10 @@ module _ (rules : Rules) (refused text : List ℕ) (settled : IsSettled rules re
         below : (m : ℕ) → m ≤ so_far (scene_after rules refused text) → is_one_of r m ≡ is_one_of refused m
         above : (m : ℕ) → so_far (scene_after rules refused text) + 1 < m → is_one_of r m ≡ false
 
-      answered : (reply : What) → reply ≡ answer rules (scene_after rules refused text).desk command → Choice reply refused
+      answered : (reply : What) → reply ≡ answer rules (scene_after rules refused text).state command → Choice reply refused
       unfolding reply_by
       answered reply is_answer = record {
-        replies = ap (λ t. cond (t && not (is_some (first_that_holds (refusals rules (scene_after rules refused text).desk command)))) (Refused NoMemory) (answer rules (scene_after rules refused text).desk command))
+        replies = ap (λ t. cond (t && not (is_some (first_that_holds (refusals rules (scene_after rules refused text).state command)))) (Refused NoMemory) (answer rules (scene_after rules refused text).state command))
             (settled.none_ahead (so_far (scene_after rules refused text) + 1) (omega arith)) ∙ sym is_answer;
         below = λ m within. refl;
         above = λ m ahead. settled.none_ahead m (omega (arith, ahead));
@@ -121,19 +121,19 @@ module _ (rules : Rules) (refused text : List ℕ) (settled : IsSettled rules re
         | inr other ↦ ap (λ t. t || is_one_of xs m) other.0
       ]
 
-      wanting : (reply : What) → reply ≡ Refused NoMemory → first_that_holds (refusals rules (scene_after rules refused text).desk command) ≡ None
+      wanting : (reply : What) → reply ≡ Refused NoMemory → first_that_holds (refusals rules (scene_after rules refused text).state command) ≡ None
           → Choice reply ((so_far (scene_after rules refused text) + 1) ∷ refused)
       unfolding reply_by
       wanting reply is_wanting none =
           let k : ℕ = so_far (scene_after rules refused text) + 1 in
           record {
-            replies = ap (λ t. cond ((t || is_one_of refused k) && not (is_some (first_that_holds (refusals rules (scene_after rules refused text).desk command)))) (Refused NoMemory) (answer rules (scene_after rules refused text).desk command)) (eq-eqb k k refl)
-                ∙ ap (λ o. cond (not (is_some o)) (Refused NoMemory) (answer rules (scene_after rules refused text).desk command)) none ∙ sym is_wanting;
+            replies = ap (λ t. cond ((t || is_one_of refused k) && not (is_some (first_that_holds (refusals rules (scene_after rules refused text).state command)))) (Refused NoMemory) (answer rules (scene_after rules refused text).state command)) (eq-eqb k k refl)
+                ∙ ap (λ o. cond (not (is_some o)) (Refused NoMemory) (answer rules (scene_after rules refused text).state command)) none ∙ sym is_wanting;
             below = λ m within. other_number k m refused (λ same. omega (arith, same, within));
             above = λ m ahead. other_number k m refused (λ same. omega (arith, same, ahead)) ∙ settled.none_ahead m (omega (arith, ahead));
           }
 
-      chosen : (reply : What) → IsReply rules (scene_after rules refused text).desk command reply → (r : List ℕ) × Choice reply r
+      chosen : (reply : What) → IsReply rules (scene_after rules refused text).state command reply → (r : List ℕ) × Choice reply r
       chosen reply (inl is_answer) = (refused, answered reply is_answer)
       chosen reply (inr want) = ((so_far (scene_after rules refused text) + 1) ∷ refused, wanting reply want.0 want.1)
 
@@ -149,10 +149,10 @@ module _ (rules : Rules) (refused text : List ℕ) (settled : IsSettled rules re
           )
 
       -- the scene after the reply, for some list of refused commands
-      pub reply_settled : (reply : What) → IsReply rules (scene_after rules refused text).desk command reply → (r : List ℕ) × IsSettled rules r longer
+      pub reply_settled : (reply : What) → IsReply rules (scene_after rules refused text).state command reply → (r : List ℕ) × IsSettled rules r longer
           × (scene_after rules r longer ≡ record (scene_after rules refused text) {
-            clerk = clerk_after rules (scene_after rules refused text).clerk c;
-            desk = after rules (scene_after rules refused text).desk command reply;
+            calls = calls_after rules (scene_after rules refused text).calls c;
+            state = after rules (scene_after rules refused text).state command reply;
             printed = (scene_after rules refused text).printed ++ Replied (so_far (scene_after rules refused text) + 1) reply ∷ [];
           })
       unfolding after_reply

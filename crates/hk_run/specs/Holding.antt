@@ -1,8 +1,8 @@
 -- What a run holds of a scene.
 use Rattle.std.specs.Prelude.{◌≡◌, ⊤, ℕ, ◌+◌, List, [], ◌∷◌}
-use Rattle.hk_spec_runs.specs.Desk.{Desk}
+use Rattle.hk_spec_runs.specs.OperatorState.{OperatorState}
 use Rattle.hk_spec_settings.specs.Settings.{Rules}
-use Rattle.hk_spec_runs.specs.Replay.{Listener, Clerk, Scene}
+use Rattle.hk_spec_runs.specs.Replay.{Listener, OperatorStream, Scene}
 use Rattle.hk_probe.specs.Single.{shelf_of}
 use Rattle.hk_station.specs.Hearing.{IsHearing, number_of}
 use Rattle.hk_station.specs.declared.station.Station.{Station}
@@ -27,14 +27,14 @@ ForListeners stations P = (rules : Rules) (listeners : List Listener) → AreHea
 -- The run's stations, operator and catalogue are those of a scene.
 pub record Holds (rules : Rules) (run : Run) (scene : Scene) : Type 0 where
   pub hears : AreHearing rules 0 run.stations.items scene.listeners
-  pub obeys : IsObeying rules run.operator (shelf_of run.catalogue) scene.clerk scene.desk
+  pub obeys : IsObeying rules run.operator (shelf_of run.catalogue) scene.calls scene.state
 
 -- a fact of each scene that a run holds
 abbrev pub ForHeld : Run → (Rules → Scene → Type 0) → Type 0
 ForHeld run P = (rules : Rules) (scene : Scene) → Holds rules run scene → P rules scene
 
-abbrev pub with_clerk : Scene → Clerk → Scene
-with_clerk scene clerk = record scene { clerk = clerk }
+abbrev pub with_calls : Scene → OperatorStream → Scene
+with_calls scene calls = record scene { calls = calls }
 
-abbrev pub with_desk : Scene → Desk → Scene
-with_desk scene desk = record scene { desk = desk }
+abbrev pub with_desk : Scene → OperatorState → Scene
+with_desk scene state = record scene { state = state }

@@ -20,8 +20,8 @@ Agree n some others = (m : ℕ) → m ≤ n → is_one_of some m ≡ is_one_of o
 
 -- The list of refused commands has none that hasn't come yet, and a list that says the same of those that came gives the same scene.
 pub record IsSettled (rules : Rules) (refused text : List ℕ) : Type 0 where
-  pub none_ahead : (m : ℕ) → length (commands (scene_after rules refused text).clerk.used) < m → is_one_of refused m ≡ false
-  pub same : (others : List ℕ) → Agree (length (commands (scene_after rules refused text).clerk.used)) others refused → scene_after rules others text ≡ scene_after rules refused text
+  pub none_ahead : (m : ℕ) → length (commands (scene_after rules refused text).calls.used) < m → is_one_of refused m ≡ false
+  pub same : (others : List ℕ) → Agree (length (commands (scene_after rules refused text).calls.used)) others refused → scene_after rules others text ≡ scene_after rules refused text
 
 -- The run has played this text, which has no fault: it has read it, and holds its scene.
 pub record HasPlayed (rules : Rules) (run : Run) (refused text : List ℕ) : Type 0 where

@@ -3,9 +3,9 @@ ghost use Rattle.std.specs.Prelude.{◌≡◌, ◌≤◌, ◌<◌, ◌+◌, ◌�
 ghost use Rattle.hk_base.specs.Devices.{Counts};
 ghost use Rattle.hk_spec_streams.specs.Operator.{Command, Publish, commands};
 ghost use Rattle.hk_spec_streams.specs.Records.{ForStation};
-ghost use Rattle.hk_spec_runs.specs.Desk.{IsReply, after};
+ghost use Rattle.hk_spec_runs.specs.OperatorState.{IsReply, after};
 ghost use Rattle.hk_spec_runs.specs.Replay.{arrived};
-ghost use Rattle.hk_operator.specs.Obeying.{clerk_after, new_commands};
+ghost use Rattle.hk_operator.specs.Obeying.{calls_after, new_commands};
 ghost use Rattle.hk_words.specs.Orders.{rules_meant, RulesFit};
 ghost use Rattle.hk_run.specs.Course.{operator_ended, taken_of};
 
@@ -53,7 +53,7 @@ fn is_in_order(end: OpEnd) -> bool
 
 impl Run {
     ghost use Rattle.hk_run.specs.Playing.{HasPlayed};
-    ghost use Rattle.hk_run.specs.Holding.{ForHeld, Holds, with_clerk, with_desk};
+    ghost use Rattle.hk_run.specs.Holding.{ForHeld, Holds, with_calls, with_desk};
     ghost use Rattle.hk_run.specs.Playing.{AddsScene, AddsSceneFront};
 
     /// A run before its first byte. It takes all memory that its streams and looks need.
@@ -106,11 +106,11 @@ impl Run {
 
     // A byte of the operator's stream: the reply to the command that it ends.
     fn obey(&mut self, byte: u8) -> Option<Reply>
-        ensures quiet { result ≡ None → ForHeld self.old (λ rules scene. (new_commands rules scene.clerk byte ≡ [])
-            × Holds rules self.new (with_clerk scene (clerk_after rules scene.clerk byte))) }
-        ensures replies { IfSome result (λ reply. ForHeld self.old (λ rules scene. (command : Command) × (new_commands rules scene.clerk byte ≡ command ∷ [])
-            × (reply.number ≡ length (commands scene.clerk.used) + 1) × IsReply rules scene.desk command reply.what
-            × Holds rules self.new (with_desk (with_clerk scene (clerk_after rules scene.clerk byte)) (after rules scene.desk command reply.what)))) }
+        ensures quiet { result ≡ None → ForHeld self.old (λ rules scene. (new_commands rules scene.calls byte ≡ [])
+            × Holds rules self.new (with_calls scene (calls_after rules scene.calls byte))) }
+        ensures replies { IfSome result (λ reply. ForHeld self.old (λ rules scene. (command : Command) × (new_commands rules scene.calls byte ≡ command ∷ [])
+            × (reply.number ≡ length (commands scene.calls.used) + 1) × IsReply rules scene.state command reply.what
+            × Holds rules self.new (with_desk (with_calls scene (calls_after rules scene.calls byte)) (after rules scene.state command reply.what)))) }
         ensures reader_stays { self.new.reader ≡ self.old.reader }
         ensures rules_stay { self.new.rules ≡ self.old.rules }
     {
@@ -126,8 +126,8 @@ impl Run {
 
     // Publishes what is staged, or tells that no version is left.
     fn publish(&mut self) -> What
-        ensures published { ForHeld self.old (λ rules scene. IsReply rules scene.desk Publish result
-            × Holds rules self.new (with_desk scene (after rules scene.desk Publish result))) }
+        ensures published { ForHeld self.old (λ rules scene. IsReply rules scene.state Publish result
+            × Holds rules self.new (with_desk scene (after rules scene.state Publish result))) }
         ensures reader_stays { self.new.reader ≡ self.old.reader }
         ensures rules_stay { self.new.rules ≡ self.old.rules }
     {

@@ -13,7 +13,7 @@ use Rattle.hk_spec_streams.specs.Pieces.{completed}
 use Rattle.hk_spec_streams.specs.Station.{Fence, station_met, fences}
 use Rattle.hk_spec_streams.specs.Blocks.{Block, blocks}
 use Rattle.hk_spec_streams.proofs.Completed.{completed-more}
-use Rattle.hk_spec_runs.specs.Desk.{Rules}
+use Rattle.hk_spec_settings.specs.Settings.{Rules}
 use Rattle.hk_spec_runs.specs.Replay.{Listener, heard, new_blocks}
 use Rattle.hk_spec_runs.specs.Listening.{Instant, IfLooked, blocks_gained, lines_gained, looks_gained, after_one, after, lines_for, steps_for, steps_gained, lines_over, looks_over, steps_over, AreKnown, KeepsBlocks, Gives}
 

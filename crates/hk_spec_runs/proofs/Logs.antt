@@ -16,7 +16,7 @@ use Rattle.hk_spec_streams.specs.Blocks.{Setting, Block, blocks, blocks_of_segme
 use Rattle.hk_spec_streams.proofs.Completed.{completed-more}
 use Rattle.hk_spec_streams.proofs.GrowingBlocks.{enumerate-append, blocks-last, no_blocks}
 use Rattle.hk_spec_lines.specs.Lines.{printed_text}
-use Rattle.hk_spec_runs.specs.Desk.{Rules}
+use Rattle.hk_spec_settings.specs.Settings.{Rules}
 use Rattle.hk_spec_runs.specs.Replay.{Listener, report_in, lines_at}
 use Rattle.hk_spec_runs.specs.Listening.{Instant, IfLooked, unheard, blocks_gained, looks_gained, after_one, after, lines_over, versions_over, AreKnown, KeepsBlocks, songs_in, WritesLog, TornLog}
 use Rattle.hk_spec_runs.proofs.Listening.{next_over, next_fault, next_on}

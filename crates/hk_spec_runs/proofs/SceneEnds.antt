@@ -12,7 +12,7 @@ use Rattle.hk_spec_streams.specs.Station.{station_met}
 use Rattle.hk_spec_streams.specs.Operator.{Command, operator_met, commands}
 use Rattle.hk_spec_streams.specs.Records.{Arrival, ForStation, ForOperator, arrivals, input_seen}
 use Rattle.hk_spec_settings.specs.Settings.{Rules}
-use Rattle.hk_spec_runs.specs.Replay.{Listener, Clerk, Scene, heard, obeyed, for_station, for_operator, arrived, opening, scene_of}
+use Rattle.hk_spec_runs.specs.Replay.{Listener, OperatorStream, Scene, heard, obeyed, for_station, for_operator, arrived, opening, scene_of}
 
 -- a listener that has no end yet, or one that is not in order
 abbrev pub EndsOtherwise : Listener → Type 0
@@ -22,7 +22,7 @@ EndsOtherwise l = l.end ≡ Some ends.Ended → ⊥
 pub record EndsTell (rules : Rules) (scene : Scene) : Type 0 where
   pub as_many : length scene.listeners ≡ rules.stations
   pub listeners : AllByRecursion EndsOtherwise scene.listeners
-  pub clerk : scene.clerk.end ≡ Some op_ends.Ended → ⊥
+  pub calls : scene.calls.end ≡ Some op_ends.Ended → ⊥
 
 fold_keeps : {A B : Type 0} (P : B → Type 0) (f : B → A → B) → ((b : B) (x : A) → P b → P (f b x)) → (b : B) (xs : List A) → P b → P (fold f b xs)
 fold_keeps P f step b [] p = p
@@ -60,34 +60,34 @@ module _ (rules : Rules) where
   station_keeps : (scene : Scene) (station byte : ℕ) (o : Option Listener) → slice_get scene.listeners station ≡ o → EndsTell rules scene → EndsTell rules (for_station rules scene station byte o)
   station_keeps scene station byte None is kept = kept
   station_keeps scene station byte (Some l) is kept =
-      let v : ℕ = length scene.desk.journal in
+      let v : ℕ = length scene.state.journal in
       let now : Listener = if is_some l.end then l else heard rules v l byte in
       record {
         as_many = length-set scene.listeners station now ∙ kept.as_many;
         listeners = one_exchanged EndsOtherwise scene.listeners station now kept.listeners
             (one_or_other EndsOtherwise (is_some l.end) l (heard rules v l byte) (one_of EndsOtherwise scene.listeners station l kept.listeners is) (heard_ends v l byte));
-        clerk = kept.clerk;
+        calls = kept.calls;
       }
 
   obeyed_keeps : (refused : List ℕ) (scene : Scene) (c : ℕ × Command) → EndsTell rules scene → EndsTell rules (obeyed rules refused scene c)
-  obeyed_keeps refused scene c kept = record { as_many = kept.as_many; listeners = kept.listeners; clerk = kept.clerk }
+  obeyed_keeps refused scene c kept = record { as_many = kept.as_many; listeners = kept.listeners; calls = kept.calls }
 
-  with_clerk : (scene : Scene) (clerk : Clerk) → EndsTell rules scene → (clerk.end ≡ Some op_ends.Ended → ⊥) → EndsTell rules (record scene { clerk = clerk })
-  with_clerk scene clerk kept other = record { as_many = kept.as_many; listeners = kept.listeners; clerk = other }
+  with_calls : (scene : Scene) (calls : OperatorStream) → EndsTell rules scene → (calls.end ≡ Some op_ends.Ended → ⊥) → EndsTell rules (record scene { calls = calls })
+  with_calls scene calls kept other = record { as_many = kept.as_many; listeners = kept.listeners; calls = other }
 
   by_operator_fault : (scene now : Scene) (met : Option WireFault) → EndsTell rules scene → EndsTell rules now
-      → EndsTell rules (option_map_or (λ fault. record scene { clerk = record { used = scene.clerk.used; end = Some (op_ends.Wire fault) } }) met now)
+      → EndsTell rules (option_map_or (λ fault. record scene { calls = record { used = scene.calls.used; end = Some (op_ends.Wire fault) } }) met now)
   by_operator_fault scene now None kept later = later
-  by_operator_fault scene now (Some fault) kept later = with_clerk scene (record { used = scene.clerk.used; end = Some (op_ends.Wire fault) }) kept (λ is. cc)
+  by_operator_fault scene now (Some fault) kept later = with_calls scene (record { used = scene.calls.used; end = Some (op_ends.Wire fault) }) kept (λ is. cc)
 
   operator_keeps : (refused : List ℕ) (scene : Scene) (byte : ℕ) → EndsTell rules scene → EndsTell rules (for_operator rules refused scene byte)
   operator_keeps refused scene byte kept =
-      let used : List ℕ = scene.clerk.used ++ byte ∷ [] in
-      let begun : Scene = record scene { clerk = record { used = used; end = None } } in
-      one_or_other (EndsTell rules) (is_some scene.clerk.end) scene _ kept
+      let used : List ℕ = scene.calls.used ++ byte ∷ [] in
+      let begun : Scene = record scene { calls = record { used = used; end = None } } in
+      one_or_other (EndsTell rules) (is_some scene.calls.end) scene _ kept
       (by_operator_fault scene _ (operator_met rules.bytes used) kept
-      (fold_keeps (EndsTell rules) (obeyed rules refused) (obeyed_keeps refused) begun (enumerate_from (length (commands scene.clerk.used) + 1) (completed commands used))
-      (with_clerk scene (record { used = used; end = None }) kept (λ is. cc))))
+      (fold_keeps (EndsTell rules) (obeyed rules refused) (obeyed_keeps refused) begun (enumerate_from (length (commands scene.calls.used) + 1) (completed commands used))
+      (with_calls scene (record { used = used; end = None }) kept (λ is. cc))))
 
   arrived_keeps : (refused : List ℕ) (scene : Scene) (a : Arrival) → EndsTell rules scene → EndsTell rules (arrived rules refused scene a)
   arrived_keeps refused scene (ForStation station byte) kept = station_keeps scene station byte (slice_get scene.listeners station) refl kept
@@ -97,7 +97,7 @@ module _ (rules : Rules) where
   opening_kept = record {
     as_many = length-replicate rules.stations (record { used = []; version = 0; end = None });
     listeners = all_alike EndsOtherwise rules.stations (record { used = []; version = 0; end = None }) (λ is. cc);
-    clerk = λ is. cc;
+    calls = λ is. cc;
   }
 
   -- so it is in each scene of a run

@@ -8,7 +8,7 @@ use Rattle.hk_base.specs.declared.plain.Match.{Match}
 use Rattle.hk_spec_streams.specs.Blocks.{Block}
 use Rattle.hk_spec_matching.specs.Catalogue.{Edit, Add}
 use Rattle.hk_spec_matching.specs.Catalogue as edits
-use Rattle.hk_spec_runs.specs.Desk.{Desk, new_desk, answer, after}
+use Rattle.hk_spec_runs.specs.OperatorState.{OperatorState, new_state, answer, after}
 use Rattle.hk_spec_settings.specs.Settings.{Rules}
 
 abbrev pub SMALL : Rules
@@ -30,17 +30,17 @@ abbrev pub MONO : Form
 MONO = record { channels = 1; factor = 1 }
 
 -- song 3 is open and has sound
-abbrev pub SONG_3_OPEN : Desk
-SONG_3_OPEN = record new_desk { song = Some (record { id = 3; form = MONO; audio = 1 ∷ 0 ∷ [] }) }
+abbrev pub SONG_3_OPEN : OperatorState
+SONG_3_OPEN = record new_state { song = Some (record { id = 3; form = MONO; audio = 1 ∷ 0 ∷ [] }) }
 
 -- song 3 goes with the next publish
-abbrev pub SONG_3_STAGED : Desk
-SONG_3_STAGED = record new_desk { staged = edits.Withdraw 3 ∷ [] }
+abbrev pub SONG_3_STAGED : OperatorState
+SONG_3_STAGED = record new_state { staged = edits.Withdraw 3 ∷ [] }
 
 -- the answers to commands one after another
-abbrev pub answers : Rules → Desk → List Command → List What
-answers rules desk [] = []
-answers rules desk (command ∷ commands) = answer rules desk command ∷ answers rules (after rules desk command (answer rules desk command)) commands
+abbrev pub answers : Rules → OperatorState → List Command → List What
+answers rules state [] = []
+answers rules state (command ∷ commands) = answer rules state command ∷ answers rules (after rules state command (answer rules state command)) commands
 
 -- a command for each refusal, and some that are done
 abbrev pub COMMANDS : List Command

@@ -1,4 +1,4 @@
-pub mod Desk
+pub mod OperatorState
 pub mod Replay
 pub mod Listening
 pub mod History

@@ -7,7 +7,7 @@ use Rattle.hk_spec_streams.specs.Pieces.{completed}
 use Rattle.hk_spec_streams.specs.Station.{station_met, station_seen, station_used, fences}
 use Rattle.hk_spec_streams.specs.Blocks.{Block, blocks}
 use Rattle.hk_spec_lines.specs.Lines.{printed_text}
-use Rattle.hk_spec_runs.specs.Desk.{Rules}
+use Rattle.hk_spec_settings.specs.Settings.{Rules}
 use Rattle.hk_spec_runs.specs.History.{query_of}
 use Rattle.hk_spec_runs.specs.Replay.{Listener, heard, new_blocks, report_in, end_of, lines_at}
 

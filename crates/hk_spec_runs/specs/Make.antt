@@ -98,4 +98,4 @@ unfoldable pub make_line : Rules → ℕ → List ℕ
 make_line rules seed =
     let scene = scene_of rules (make_input seed rules.stations rules.setting.flips) [] in
     codes "M " ++ numbered (codes "blocks") (sum_by reports_of scene.printed) ++ numbered (codes " matches") (sum_by items_of scene.printed)
-    ++ numbered (codes " versions") (length scene.desk.journal) ++ NEWLINE
+    ++ numbered (codes " versions") (length scene.state.journal) ++ NEWLINE

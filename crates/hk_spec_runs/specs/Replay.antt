@@ -18,7 +18,7 @@ use Rattle.hk_spec_matching.specs.Catalogue.{Songs, Journal, version}
 use Rattle.hk_spec_matching.specs.Matching.{matches}
 use Rattle.hk_spec_runs.specs.History.{query_of}
 use Rattle.hk_spec_lines.specs.Lines.{Printed, Report, Replied, printed_text, station_line, operator_line}
-use Rattle.hk_spec_runs.specs.Desk.{Desk, new_desk, at_end, refusals, answer, after}
+use Rattle.hk_spec_runs.specs.OperatorState.{OperatorState, new_state, at_end, refusals, answer, after}
 use Rattle.hk_spec_settings.specs.Settings.{Rules}
 
 -- a station so far: the bytes that it used, the version of its last look, and its end once it is over
@@ -28,15 +28,15 @@ pub record Listener : Type 0 where
   pub end : Option End
 
 -- the operator so far: the bytes that it used, and its end once it is over
-pub record Clerk : Type 0 where
+pub record OperatorStream : Type 0 where
   pub used : List ℕ
   pub end : Option OpEnd
 
--- the run so far: each station, the operator, the desk, and what was printed
+-- the run so far: each station, the operator, the state, and what was printed
 pub record Scene : Type 0 where
   pub listeners : List Listener
-  pub clerk : Clerk
-  pub desk : Desk
+  pub calls : OperatorStream
+  pub state : OperatorState
   pub printed : List Printed
 
 -- the report of a station's block with its number, at a version with these songs
@@ -80,30 +80,30 @@ module _ (rules : Rules) where
   reports station journal before now = map (report station journal (length journal)) (new_blocks before now)
 
   -- the answer, or want of memory where the command's number is among the refused ones and its answer is no refusal
-  abbrev pub reply_to : List ℕ → ℕ → Desk → Command → What
-  reply_to refused n desk command =
-      if is_one_of refused n && not (is_some (first_that_holds (refusals rules desk command))) then Refused NoMemory else answer rules desk command
+  abbrev pub reply_to : List ℕ → ℕ → OperatorState → Command → What
+  reply_to refused n state command =
+      if is_one_of refused n && not (is_some (first_that_holds (refusals rules state command))) then Refused NoMemory else answer rules state command
 
   -- a command with its number
   abbrev pub obeyed : List ℕ → Scene → ℕ × Command → Scene
   obeyed refused scene c =
-      let reply = reply_to refused c.0 scene.desk c.1 in
-      record scene { desk = after rules scene.desk c.1 reply; printed = scene.printed ++ Replied c.0 reply ∷ [] }
+      let reply = reply_to refused c.0 scene.state c.1 in
+      record scene { state = after rules scene.state c.1 reply; printed = scene.printed ++ Replied c.0 reply ∷ [] }
 
   abbrev pub for_station : Scene → ℕ → ℕ → Option Listener → Scene
   for_station scene station byte None = scene
   for_station scene station byte (Some l) =
-      let now = if is_some l.end then l else heard (length scene.desk.journal) l byte in
-      record scene { listeners = slice_set scene.listeners station now; printed = scene.printed ++ reports station scene.desk.journal l now }
+      let now = if is_some l.end then l else heard (length scene.state.journal) l byte in
+      record scene { listeners = slice_set scene.listeners station now; printed = scene.printed ++ reports station scene.state.journal l now }
 
   abbrev pub for_operator : List ℕ → Scene → ℕ → Scene
   for_operator refused scene byte =
-      let used = scene.clerk.used ++ byte ∷ [] in
-      if is_some scene.clerk.end then scene else
-      option_map_or (λ fault. record scene { clerk = record { used = scene.clerk.used; end = Some (op_ends.Wire fault) } })
+      let used = scene.calls.used ++ byte ∷ [] in
+      if is_some scene.calls.end then scene else
+      option_map_or (λ fault. record scene { calls = record { used = scene.calls.used; end = Some (op_ends.Wire fault) } })
       (operator_met rules.bytes used)
-      (fold (obeyed refused) (record scene { clerk = record { used = used; end = None } })
-      (enumerate_from (length (commands scene.clerk.used) + 1) (completed commands used)))
+      (fold (obeyed refused) (record scene { calls = record { used = used; end = None } })
+      (enumerate_from (length (commands scene.calls.used) + 1) (completed commands used)))
 
   -- one byte of the input; a byte for a stream that is over is skipped
   abbrev pub arrived : List ℕ → Scene → Arrival → Scene
@@ -113,8 +113,8 @@ module _ (rules : Rules) where
   abbrev pub opening : Scene
   opening = record {
     listeners = replicate rules.stations (record { used = []; version = 0; end = None });
-    clerk = record { used = []; end = None };
-    desk = new_desk;
+    calls = record { used = []; end = None };
+    state = new_state;
     printed = [];
   }
 
@@ -130,14 +130,14 @@ module _ (rules : Rules) where
   abbrev pub end_of : Listener → End
   end_of l = unwrap_or l.end (option_map_or (λ fault. ends.Wire fault) (station_wrong rules.bytes l.used) ends.Ended)
 
-  abbrev pub operator_end_of : Clerk → OpEnd
-  operator_end_of clerk = unwrap_or clerk.end (option_map_or (λ fault. op_ends.Wire fault) (operator_wrong rules.bytes clerk.used) op_ends.Ended)
+  abbrev pub operator_end_of : OperatorStream → OpEnd
+  operator_end_of calls = unwrap_or calls.end (option_map_or (λ fault. op_ends.Wire fault) (operator_wrong rules.bytes calls.used) op_ends.Ended)
 
   -- the stations' lines, and then the operator's
   abbrev pub summary : Scene → List ℕ
   summary scene =
       flat_map (λ p. station_line p.0 (length (blocks rules.setting p.1.used)) p.1.version (end_of p.1)) (enumerate_from 0 scene.listeners)
-      ++ operator_line (length (commands scene.clerk.used)) (length (at_end scene.desk).journal) (operator_end_of scene.clerk)
+      ++ operator_line (length (commands scene.calls.used)) (length (at_end scene.state).journal) (operator_end_of scene.calls)
 
   -- all that a replay prints where its input has no fault
   unfoldable pub replay : List ℕ → List ℕ → List ℕ

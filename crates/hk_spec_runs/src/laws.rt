@@ -4,7 +4,7 @@ ghost use Rattle.hk_base.specs.declared.plain.Reason.TheVariants as reasons;
 ghost use Rattle.hk_base.specs.declared.plain.What.TheVariants as whats;
 ghost use Rattle.hk_base.specs.declared.plain.End.TheVariants as ends;
 ghost use Rattle.hk_base.specs.declared.plain.WireFault.TheVariants as faults;
-ghost use Rattle.hk_spec_runs.specs.Desk.{answer, after, new_desk, at_end};
+ghost use Rattle.hk_spec_runs.specs.OperatorState.{answer, after, new_state, at_end};
 ghost use Rattle.hk_spec_runs.specs.History.{history, IsLegal, Published, Looked};
 ghost use Rattle.hk_spec_streams.specs.Operator.{OpenSong, Audio, Close, Publish};
 ghost use Rattle.hk_spec_runs.specs.Replay.{replay, out};
@@ -14,38 +14,38 @@ ghost use Rattle.hk_spec_streams.specs.Examples.{prints_hello};
 ghost use Rattle.hk_spec_runs.specs.Examples.{SMALL, TIGHT, MONO, SONG_3_OPEN, SONG_3_STAGED, SONGS_7, BLOCK_5, FOUND_5, OPERATOR_BYTES, STATION_BYTES, COMMANDS, answers};
 
 /// Answers that need no catalogue.
-#[tactic(auto, unfolding(crate::specs::Desk::answer))]
+#[tactic(auto, unfolding(crate::specs::OperatorState::answer))]
 pub fn answer_examples()
-    ensures no_song { answer SMALL new_desk Close ≡ whats.Refused reasons.NoSongOpen }
-    ensures no_audio { answer SMALL new_desk (Audio []) ≡ whats.Refused reasons.NoSongOpen }
-    ensures open { answer SMALL new_desk (OpenSong 3 MONO) ≡ whats.Done }
-    ensures first_version { answer SMALL new_desk Publish ≡ whats.Published 1 }
-    ensures versions_full { answer SMALL (record new_desk { journal = [] ∷ [] ∷ [] }) Publish ≡ whats.Refused reasons.VersionsFull }
+    ensures no_song { answer SMALL new_state Close ≡ whats.Refused reasons.NoSongOpen }
+    ensures no_audio { answer SMALL new_state (Audio []) ≡ whats.Refused reasons.NoSongOpen }
+    ensures open { answer SMALL new_state (OpenSong 3 MONO) ≡ whats.Done }
+    ensures first_version { answer SMALL new_state Publish ≡ whats.Published 1 }
+    ensures versions_full { answer SMALL (record new_state { journal = [] ∷ [] ∷ [] }) Publish ≡ whats.Refused reasons.VersionsFull }
 {}
 
 /// Each refusal, in the order of the tests.
-#[tactic(auto, unfolding(crate::specs::Desk::answer, crate::specs::Desk::after, hk_spec_matching::specs::Catalogue::version, hk_spec_sound::specs::Prints::prints_of_sound, hk_spec_sound::specs::Prints::prints_of_samples, hk_spec_sound::specs::Prints::frame_energies, hk_spec_sound::specs::Samples::samples_of, hk_spec_sound::specs::Samples::decimated, hk_spec_sound::specs::Windows::windows))]
+#[tactic(auto, unfolding(crate::specs::OperatorState::answer, crate::specs::OperatorState::after, hk_spec_matching::specs::Catalogue::version, hk_spec_sound::specs::Prints::prints_of_sound, hk_spec_sound::specs::Prints::prints_of_samples, hk_spec_sound::specs::Prints::frame_energies, hk_spec_sound::specs::Samples::samples_of, hk_spec_sound::specs::Samples::decimated, hk_spec_sound::specs::Windows::windows))]
 pub fn refusal_examples()
-    ensures { answers TIGHT new_desk COMMANDS
+    ensures { answers TIGHT new_state COMMANDS
         ≡ whats.Done ∷ whats.Refused reasons.Duplicate ∷ whats.Refused reasons.Short ∷ whats.Refused reasons.Unknown ∷ whats.Refused reasons.PositionsFull ∷ whats.Done
         ∷ whats.Refused reasons.SongsFull ∷ whats.Refused reasons.NoSongOpen ∷ whats.Done ∷ whats.Refused reasons.SongOpen
         ∷ whats.Done ∷ whats.Refused reasons.Short ∷ whats.Published 1 ∷ whats.Published 2 ∷ whats.Refused reasons.VersionsFull ∷ [] }
 {}
 
 /// What stands after a command for which memory was wanted: sound and a close give the open song up, and else all stays.
-#[tactic(auto, unfolding(crate::specs::Desk::after))]
+#[tactic(auto, unfolding(crate::specs::OperatorState::after))]
 pub fn no_memory_examples()
-    ensures open { after SMALL new_desk (OpenSong 3 MONO) (whats.Refused reasons.NoMemory) ≡ new_desk }
-    ensures audio { after SMALL SONG_3_OPEN (Audio (0 ∷ 0 ∷ [])) (whats.Refused reasons.NoMemory) ≡ new_desk }
-    ensures close { after SMALL SONG_3_OPEN Close (whats.Refused reasons.NoMemory) ≡ new_desk }
+    ensures open { after SMALL new_state (OpenSong 3 MONO) (whats.Refused reasons.NoMemory) ≡ new_state }
+    ensures audio { after SMALL SONG_3_OPEN (Audio (0 ∷ 0 ∷ [])) (whats.Refused reasons.NoMemory) ≡ new_state }
+    ensures close { after SMALL SONG_3_OPEN Close (whats.Refused reasons.NoMemory) ≡ new_state }
     ensures publish { after SMALL SONG_3_STAGED Publish (whats.Refused reasons.NoMemory) ≡ SONG_3_STAGED }
 {}
 
 /// An open song, and an edit that no publish followed, are dropped where the operator's stream ends.
-#[tactic(auto, unfolding(crate::specs::Desk::after))]
+#[tactic(auto, unfolding(crate::specs::OperatorState::after))]
 pub fn dropped_examples()
-    ensures song { at_end SONG_3_OPEN ≡ new_desk }
-    ensures edit { at_end SONG_3_STAGED ≡ new_desk }
+    ensures song { at_end SONG_3_OPEN ≡ new_state }
+    ensures edit { at_end SONG_3_STAGED ≡ new_state }
 {}
 
 /// A whole replay from bytes to text: a song is published, and the station's one block is found in it.

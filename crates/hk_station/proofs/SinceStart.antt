@@ -3,7 +3,7 @@ use Rattle.std.proofs.Common.{◌<◌, ℕ, List, arith, subst}
 use Rattle.hk_base.specs.declared.sink.Sink as sinks
 use Rattle.hk_spec_matching.specs.Catalogue.{Rise}
 use Rattle.hk_spec_matching.proofs.Rising.{Rise-from}
-use Rattle.hk_spec_runs.specs.Desk.{Rules}
+use Rattle.hk_spec_settings.specs.Settings.{Rules}
 use Rattle.hk_spec_runs.specs.Listening.{Instant, bytes_in, unheard, after, versions_over, IsLogOf, UsesOf}
 use Rattle.hk_spec_runs.proofs.Logs.{writes_log}
 use Rattle.hk_block.specs.declared.looker.Looker as lookers

@@ -18,7 +18,7 @@ use Rattle.hk_spec_streams.specs.Blocks.{blocks}
 use Rattle.hk_spec_streams.proofs.NextFault.{seen_of-all, fault_of-none, fault_of-some, fault_of-stays}
 use Rattle.hk_station_wire.proofs.GrowingFences.{fence_in, fences-append, fences_completed}
 use Rattle.hk_station_wire.proofs.WellFormed.{fits, no_open_fence}
-use Rattle.hk_spec_runs.specs.Desk.{Rules}
+use Rattle.hk_spec_settings.specs.Settings.{Rules}
 use Rattle.hk_spec_runs.specs.Replay.{Listener}
 use Rattle.hk_spec_runs.specs.Listening.{Instant, bytes_in, unheard, looks_gained, looks_over, after_one, after, UsesOf, UsesBytes}
 use Rattle.hk_spec_runs.proofs.Listening.{next_over, next_fault, next_on}

@@ -2,7 +2,7 @@
 use Rattle.std.specs.Prelude.{◌≡◌, ℕ, length, Option, None}
 use Rattle.hk_base.specs.declared.plain.End.{End}
 use Rattle.hk_spec_streams.specs.Blocks.{blocks}
-use Rattle.hk_spec_runs.specs.Desk.{Rules}
+use Rattle.hk_spec_settings.specs.Settings.{Rules}
 use Rattle.hk_spec_runs.specs.Replay.{Listener}
 use Rattle.hk_receiver.specs.Received.{HasReceived}
 use Rattle.hk_station.specs.declared.station.Station.{Station}

@@ -5,7 +5,7 @@ ghost use Rattle.hk_base.specs.declared.plain.End.{End};
 ghost use Rattle.hk_base.specs.declared.plain.End.TheVariants as ends;
 ghost use Rattle.hk_spec_streams.specs.Blocks.{blocks};
 ghost use Rattle.hk_spec_lines.specs.Lines.{line};
-ghost use Rattle.hk_spec_runs.specs.Desk.{Rules};
+ghost use Rattle.hk_spec_settings.specs.Settings.{Rules};
 ghost use Rattle.hk_spec_runs.specs.Replay.{end_of};
 ghost use Rattle.hk_spec_runs.specs.Listening.{Instant, bytes_in, unheard};
 ghost use Rattle.hk_block.specs.Ring.{is_full};

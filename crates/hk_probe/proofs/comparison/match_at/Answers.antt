@@ -1,7 +1,7 @@
 use Rattle.std.proofs.Common.{sym, ◌∙◌, arith}
 use Rattle.std.proofs.lemmas.Slice.Zip.{length-zip}
 use Rattle.hk_catalogue.specs.Shelves.{song_of}
-use Rattle.hk_probe.specs.Comparison.{query_of_prints}
+use Rattle.hk_spec_matching.specs.Matching.{query_for}
 use Rattle.hk_probe.proofs.Matches.{match-first, match-no_hit, none_hits}
 use Rattle.hk_probe.proofs.comparison.match_at.Goals as goal
 
@@ -14,5 +14,5 @@ pub returns-else-first_hit-lt-BLOCK_SIZE : goal.returns-else-first_hit-lt-BLOCK_
 returns-else-first_hit-lt-BLOCK_SIZE c whole =
     let prints = c.args.block.now.prints in
     let words = c.args.words.now in
-    sym (match-no_hit (query_of_prints prints) (c.args.id, song_of whole) (c.args.start, words)
+    sym (match-no_hit (query_for prints) (c.args.id, song_of whole) (c.args.start, words)
     (none_hits prints words (omega (arith, length-zip prints words, c.first_hit.ensures.first))))

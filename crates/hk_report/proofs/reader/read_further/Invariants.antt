@@ -3,7 +3,7 @@ use Rattle.std.specs.List.{AllByRecursion}
 use Rattle.hk_base.specs.declared.plain.Match.{Match}
 use Rattle.hk_report.specs.Pieces.{further_items}
 use Rattle.hk_report.specs.Reports.{ItemFits}
-use Rattle.hk_report.specs.Reading.{IsCut}
+use Rattle.hk_report.specs.LineReading.{IsCut}
 use Rattle.hk_report.proofs.reader.read_further.Given as goal
 
 -- what was read so far are items, and they were kept

@@ -1,5 +1,5 @@
 use Rattle.std.proofs.Common.{arith, codes}
-use Rattle.hk_report.specs.Reading.{MOST_32}
+use Rattle.hk_report.specs.LineReading.{MOST_32}
 use Rattle.hk_report.proofs.Stopping.{stopped, stops_in_field, stops_after_field}
 use Rattle.hk_report.proofs.Items.{further_follows, errors_follows, start_follows}
 use Rattle.hk_report.proofs.reader.read_item.Goals as goal

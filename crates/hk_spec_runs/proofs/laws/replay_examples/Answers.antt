@@ -11,7 +11,7 @@ use Rattle.hk_spec_streams.specs.Records.{input_met, arrivals}
 use Rattle.hk_spec_matching.specs.Catalogue.{version}
 use Rattle.hk_spec_matching.specs.Matching.{matches, matches_of_song, match_at}
 use Rattle.hk_spec_lines.specs.Lines.{line, reply_line, station_line, operator_line}
-use Rattle.hk_spec_runs.specs.Desk.{answer, after}
+use Rattle.hk_spec_runs.specs.OperatorState.{answer, after}
 use Rattle.hk_spec_runs.specs.Replay.{replay, scene_of, report}
 use Rattle.hk_spec_runs.proofs.laws.replay_examples.Goals as goal
 

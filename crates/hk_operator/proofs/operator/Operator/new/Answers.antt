@@ -11,7 +11,7 @@ use Rattle.hk_operator.proofs.Following.{no_commands}
 use Rattle.hk_operator.proofs.operator.Operator.new.Goals as goal
 
 pub returns : goal.returns
-returns c = λ rules view desk fixed limit positions none at.
+returns c = λ rules view state fixed limit positions none at.
     let nothing = in_hello [] (omega arith) in
     record {
       fixed = fixed;

@@ -1,19 +1,19 @@
--- A shelf that stands for a desk, and what is decided of an edit.
+-- A shelf that stands for a state, and what is decided of an edit.
 use Rattle.std.specs.Prelude.{◌≡◌, length, Option, Some, None}
 use Rattle.hk_base.specs.declared.plain.Reason.{Reason}
 use Rattle.hk_base.specs.declared.plain.Reason.TheVariants.{NoMemory}
 use Rattle.hk_base.specs.declared.plain.What.{What}
 use Rattle.hk_base.specs.declared.plain.What.TheVariants.{Done, Published, Refused}
 use Rattle.hk_spec_matching.specs.Catalogue.{version}
-use Rattle.hk_spec_runs.specs.Desk.{Desk, present}
+use Rattle.hk_spec_runs.specs.OperatorState.{OperatorState, present}
 use Rattle.hk_spec_settings.specs.Settings.{Rules}
 use Rattle.hk_block.specs.Looker.{ShelfView}
 
--- The shelf stands for the desk.
-pub record IsAtDesk (rules : Rules) (view : ShelfView) (desk : Desk) : Type 0 where
-  pub present : view.present ≡ present rules desk
-  pub staged : view.staged ≡ desk.staged
-  pub base : view.base ≡ (length desk.journal, version rules.limits desk.journal (length desk.journal))
+-- The shelf stands for the state.
+pub record IsOnShelf (rules : Rules) (view : ShelfView) (state : OperatorState) : Type 0 where
+  pub present : view.present ≡ present rules state
+  pub staged : view.staged ≡ state.staged
+  pub base : view.base ≡ (length state.journal, version rules.limits state.journal (length state.journal))
   pub limits : view.limits ≡ rules.limits
 
 -- what is published, and the limits, stay
