@@ -1,0 +1,5 @@
+pub mod Ranges
+pub mod Weak
+pub mod Drawing
+pub mod Before
+pub mod Lengths
