@@ -1,9 +1,9 @@
 -- Draws, and words from them.
-use Rattle.std.proofs.Common.{◌≡◌, ℕ, zero, suc, ◌+◌, ◌-◌, ◌*◌, ◌/◌, ◌^◌, ◌<◌, ◌≤◌, List, [], ◌∷◌, ◌++◌, map, take, drop, length, get_or, ap, sym, ◌∙◌, arith, append_assoc, refl}
+use Rattle.std.proofs.Common.{◌≡◌, ℕ, zero, suc, ◌+◌, ◌*◌, ◌/◌, ◌^◌, ◌≤◌, List, [], ◌∷◌, ◌++◌, map, take, drop, length, get_or, ap, sym, ◌∙◌, arith, append_assoc, refl}
 use Rattle.std.specs.List.{range_with_len, slice_index}
 use Rattle.std.proofs.lemmas.Simd.{map-map}
 use Rattle.std.proofs.lemmas.List.{get_or-take, get_or-drop, take-map}
-use Rattle.std.proofs.lemmas.List.FromFn.{take-map-range_with_len}
+use Rattle.std.proofs.lemmas.List.FromFn.{take-map-range_with_len, length-map-range_with_len}
 use Rattle.hk_spec_sound.specs.Windows.{windows, window, window_count}
 use Rattle.hk_spec_sound.proofs.GrowingWindows.{map_range_same}
 use Rattle.hk_spec_sound.proofs.BegunWindows.{window_count-above}
@@ -23,6 +23,11 @@ high_parts-step before all x next h n m was one drawn high =
 pub high_parts-none : (x : ℕ) → high_parts x 0 ≡ []
 unfolding high_parts
 high_parts-none x = refl
+
+pub length-high_parts : (x n : ℕ) → length (high_parts x n) ≡ n
+unfolding high_parts
+length-high_parts x zero = refl
+length-high_parts x (suc n) = omega (arith, length-high_parts (next_draw x) n)
 
 -- the word at a place, of two high parts
 abbrev pub word_at : List ℕ → ℕ → ℕ
@@ -50,3 +55,6 @@ drawn_words-first highs n enough =
     ∙ ap (map pair_word) (take-map-range_with_len (window 2 2 highs) 0 count n many)
     ∙ map-map pair_word (window 2 2 highs) (range_with_len 0 n)
     ∙ map_range_same (λ i. pair_word (window 2 2 highs i)) (word_at highs) 0 n (λ i low high. word_in_window highs i))
+
+pub length-drawn_words : (highs : List ℕ) (n : ℕ) → 2 * n ≤ length highs → length (take n (drawn_words highs)) ≡ n
+length-drawn_words highs n enough = sym (ap length (drawn_words-first highs n enough)) ∙ length-map-range_with_len (word_at highs) 0 n

@@ -3,3 +3,5 @@ pub mod Weak
 pub mod Drawing
 pub mod Before
 pub mod Lengths
+pub mod Rounds
+pub mod Played

@@ -5,18 +5,20 @@ use Rattle.std.proofs.lemmas.List.{map-id, flat_map_more}
 use Rattle.std.proofs.lemmas.List.Sums.{AllPass-from_list_all}
 use Rattle.std.proofs.lemmas.List.FromFn.{length-range_with_len, get_or-range_with_len, map-range_with_len_more, sum_by-map-range_with_len_more}
 
-pub range-more : (n : ℕ) → range_with_len 0 (n + 1) ≡ range_with_len 0 n ++ n ∷ []
-range-more n = sym (map-id (range_with_len 0 (n + 1))) ∙ map-range_with_len_more (λ i. i) 0 n n (omega arith) ∙ ap (λ is. is ++ n ∷ []) (map-id (range_with_len 0 n))
+pub range-more : (a n j : ℕ) → a + n ≡ j → range_with_len a (n + 1) ≡ range_with_len a n ++ j ∷ []
+range-more a n j next =
+    sym (map-id (range_with_len a (n + 1))) ∙ map-range_with_len_more (λ i. i) a n j next ∙ ap (λ is. is ++ j ∷ []) (map-id (range_with_len a n))
 
 pub sum_by-more : (f : ℕ → ℕ) (n : ℕ) → sum_by f (range_with_len 0 (n + 1)) ≡ sum_by f (range_with_len 0 n) + f n
 sum_by-more f n =
     sym (ap (sum_by f) (map-id (range_with_len 0 (n + 1)))) ∙ sum_by-map-range_with_len_more f (λ i. i) 0 n n (omega arith)
     ∙ ap (λ is. sum_by f is + f n) (map-id (range_with_len 0 n))
 
--- a text that one more item is written to
-pub written-more : (f : ℕ → List ℕ) (text : List ℕ) (n : ℕ)
-    → (text ++ flat_map f (range_with_len 0 n)) ++ f n ≡ text ++ flat_map f (range_with_len 0 (n + 1))
-written-more f text n = flat_map_more f text (range_with_len 0 n) n ∙ sym (ap (λ is. text ++ flat_map f is) (range-more n))
+-- a text that the piece of one more number is written to
+pub written-more : (f : ℕ → List ℕ) (start text next : List ℕ) (a n j : ℕ) → text ≡ start ++ flat_map f (range_with_len a n) → a + n ≡ j → next ≡ text ++ f j
+    → next ≡ start ++ flat_map f (range_with_len a (n + 1))
+written-more f start text next a n j was at wrote =
+    wrote ∙ ap (λ t. t ++ f j) was ∙ flat_map_more f start (range_with_len a n) j ∙ sym (ap (λ is. start ++ flat_map f is) (range-more a n j at))
 
 -- what a test finds of each number of a range
 pub each_below : (p : ℕ → Bool) (n i : ℕ) → list_all p (range_with_len 0 n) ≡ true → i < n → p i ≡ true

@@ -1,6 +1,6 @@
 -- So many weak bits from one on, round the word.
 use Rattle.std.proofs.Common.{◌≡◌, ℕ, ◌+◌, ◌%◌, ◌^◌, ◌<◌, ◌≤◌, map, sum, ap, sym, ◌∙◌, arith, Bool, true, nat_lt, refl}
-use Rattle.std.specs.List.{range_with_len, sum_by, list_all}
+use Rattle.std.specs.List.{range_with_len, list_all}
 use Rattle.std.proofs.lemmas.List.Sums.{sum-map}
 use Rattle.std.proofs.lemmas.Bool.{ltb-true}
 use Rattle.hk_made.proofs.Ranges.{sum_by-more, each_below}

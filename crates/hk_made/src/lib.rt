@@ -7,8 +7,15 @@
 
 mod commands;
 mod draws;
+mod edits;
 mod fields;
+mod input;
+mod packets;
 mod prints;
+mod programme;
 mod records;
 mod songs;
+#[cfg(test)]
+mod tests;
 
+pub use input::made_input;

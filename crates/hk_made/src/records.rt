@@ -16,11 +16,7 @@ pub fn put_operator_record(text: &mut Vec<u8>, bytes: &[u8]) -> Result<(), NoMem
 }
 
 /// Puts a record of bytes for a station.
-pub fn put_station_record(
-    text: &mut Vec<u8>,
-    station: u8,
-    bytes: &[u8],
-) -> Result<(), NoMemory>
+pub fn put_station_record(text: &mut Vec<u8>, station: u8, bytes: &[u8]) -> Result<(), NoMemory>
     requires { length bytes.now < 2 ^ 16 }
     ensures { OnOk result (text.new.items ≡ text.old.items ++ station_record station bytes.now) }
 {

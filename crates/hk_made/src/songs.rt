@@ -50,7 +50,7 @@ fn song_length(i: usize) -> usize
 fn words_before(i: usize) -> usize
     requires { i < 8 }
     ensures value { result ≡ words_before i }
-    ensures fits { result + (1000 + 100 * i) ≤ 10800 }
+    ensures fits { result + song_length i ≤ 10800 }
 {
     let mut words = 0;
     for earlier in 0..i {

@@ -60,7 +60,7 @@ abbrev pub print_bytes : Print → List ℕ
 print_bytes print = to_be_bytes w32 print.word ++ to_be_bytes w32 print.mask
 
 -- 600 prints of song (s + r) mod 8 from place 40 * r, with the draws of round r and station s of n
-abbrev pub played_bytes : ℕ → List ℕ → ℕ → ℕ → ℕ → List ℕ
+unfoldable pub played_bytes : ℕ → List ℕ → ℕ → ℕ → ℕ → List ℕ
 played_bytes flips highs n r s =
     let song = song_of highs ((s + r) % 8) in
     let draws = drop (2 * words_before 8 + (r * n + s) * 600) highs in

@@ -1,4 +1,4 @@
-use Rattle.std.proofs.Common.{◌≡◌, ap, take, length, ◌∙◌, arith}
+use Rattle.std.proofs.Common.{ap, take, length, arith}
 use Rattle.std.proofs.lemmas.List.{length-take}
 use Rattle.hk_made.proofs.Lengths.{length-words}
 use Rattle.hk_made.proofs.commands.add.Goals as goal

@@ -1,6 +1,6 @@
-use Rattle.std.proofs.Common.{◌≡◌, ◌+◌, ◌*◌, ◌%◌, ◌^◌, ◌<◌, ap, sym, ◌∙◌, arith}
+use Rattle.std.proofs.Common.{◌+◌, ◌%◌, arith}
 use Rattle.std.proofs.lemmas.Nat.{one_shl}
-use Rattle.hk_made.proofs.Weak.{weak_sum, weak_sum-more, weak_sum-fits}
+use Rattle.hk_made.proofs.Weak.{weak_sum-more, weak_sum-fits}
 use Rattle.hk_made.proofs.prints.weak_bits.Goals as goal
 
 pub overflow_add-mask-in-loop-i : goal.overflow_add-mask-in-loop-i

@@ -1,6 +1,5 @@
 use Rattle.std.proofs.Common.{rules, ◌≡◌, ◌+◌, ◌*◌, [], ◌∷◌, ◌++◌, take, get_or, ap, sym, ◌∙◌, arith}
 use Rattle.std.proofs.lemmas.List.FromFn.{map-range_with_len_more}
-use Rattle.std.specs.List.{range_with_len}
 use Rattle.hk_spec_made.specs.Input.{drawn_words}
 use Rattle.hk_made.proofs.Drawing.{word_at, drawn_words-first}
 use Rattle.hk_made.proofs.songs.song_words.Goals as goal
