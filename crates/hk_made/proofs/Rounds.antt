@@ -1,7 +1,7 @@
 -- The rounds of the table are those of the definition.
-use Rattle.std.proofs.Common.{◌≡◌, ℕ, ◌+◌, ◌*◌, List, [], ◌∷◌, ◌++◌, codes, flat_map, refl, ap, ◌∙◌}
+use Rattle.std.proofs.Common.{◌≡◌, ℕ, ◌+◌, ◌*◌, List, ◌++◌, codes, flat_map, refl, ap, ◌∙◌}
 use Rattle.std.specs.List.{range_with_len, enumerate_from, slice_index_or}
-use Rattle.hk_spec_made.specs.Input.{make_input, high_parts, words_before, operator_record, station_record, round_records, round_commands}
+use Rattle.hk_spec_made.specs.Input.{make_input, high_parts, words_before, operator_record, station_record, round_records, round_commands, hello_bytes}
 use Rattle.hk_made.specs.declared.edits.TheConstants.{ROUNDS}
 use Rattle.hk_made.specs.declared.edits.Edit.{Edit}
 use Rattle.hk_made.specs.declared.edits.Edit.TheVariants.{Add}
@@ -15,7 +15,7 @@ round_text flips highs stations round = round_records flips highs stations (roun
 
 -- the hellos, with which the input begins
 abbrev pub hellos : ℕ → List ℕ
-hellos stations = operator_record (codes "HKO1") ++ flat_map (λ s. station_record s (codes "HKS1" ++ 0 ∷ 1 ∷ [])) (range_with_len 0 stations)
+hellos stations = operator_record (codes "HKO1") ++ flat_map (λ s. station_record s hello_bytes) (range_with_len 0 stations)
 
 rounds-all : (f : ℕ × List (List ℕ) → List ℕ) (highs : List ℕ)
     → flat_map (λ r. f (r, commands_of highs (edit_in r))) (range_with_len 0 4) ≡ flat_map f (enumerate_from 0 (round_commands highs))

@@ -1,9 +1,7 @@
 // What the stations play and the operator does.
-ghost use Rattle.std.specs.Prelude.{◌≡◌, ◌<◌, ◌≤◌, ◌+◌, ◌*◌, ◌^◌, ◌++◌, [], ◌∷◌, length, take, flat_map, OnOk, IfOk};
-ghost use Rattle.std.specs.Int.{w16, to_be_bytes};
+ghost use Rattle.std.specs.Prelude.{◌≡◌, ◌<◌, ◌≤◌, ◌+◌, ◌*◌, ◌^◌, ◌++◌, length, take, flat_map, OnOk, IfOk};
 ghost use Rattle.std.specs.List.{range_with_len};
-ghost use Rattle.hk_spec_streams.specs.Station.{DATA, GAP};
-ghost use Rattle.hk_spec_made.specs.Input.{high_parts, drawn_words, words_before, song_length, song_of, add_bytes, operator_record, station_record, played_bytes, round_records};
+ghost use Rattle.hk_spec_made.specs.Input.{high_parts, drawn_words, words_before, song_length, song_of, add_bytes, operator_record, station_record, data_bytes, gap_bytes, round_records};
 ghost use Rattle.hk_made.specs.Edits.{commands_of, EditFits};
 
 use crate::commands::{add, publish, withdraw};
@@ -110,7 +108,7 @@ impl Programme {
     fn put_played(&self, alloc: Global, text: &mut Vec<u8>, round: usize) -> Result<(), NoMemory>
         requires { round < 4 }
         ensures { OnOk result (text.new.items ≡ text.old.items
-            ++ flat_map (λ s. station_record s (DATA ∷ to_be_bytes w16 4800 ++ played_bytes self.now.flips self.now.highs.items self.now.stations round s)) (range_with_len 0 self.now.stations)) }
+            ++ flat_map (λ s. station_record s (data_bytes self.now.flips self.now.highs.items self.now.stations round s)) (range_with_len 0 self.now.stations)) }
     {
         for station in 0..self.stations {
             let packet = self.played(alloc, round, station)?;
@@ -123,7 +121,7 @@ impl Programme {
     fn played(&self, alloc: Global, round: usize, station: u8) -> Result<Vec<u8>, NoMemory>
         requires there { round < 4 }
         requires plays { station < self.now.stations }
-        ensures bytes { IfOk result (λ packet. packet.items ≡ DATA ∷ to_be_bytes w16 4800 ++ played_bytes self.now.flips self.now.highs.items self.now.stations round station) }
+        ensures bytes { IfOk result (λ packet. packet.items ≡ data_bytes self.now.flips self.now.highs.items self.now.stations round station) }
         ensures size { IfOk result (λ packet. length packet.items ≡ 4803) }
     {
         let station = usize::from(station);
@@ -145,7 +143,7 @@ impl Programme {
 
 // Puts a gap of each station.
 fn put_gaps(text: &mut Vec<u8>, stations: u8) -> Result<(), NoMemory>
-    ensures { OnOk result (text.new.items ≡ text.old.items ++ flat_map (λ s. station_record s (GAP ∷ 0 ∷ 0 ∷ [])) (range_with_len 0 stations)) }
+    ensures { OnOk result (text.new.items ≡ text.old.items ++ flat_map (λ s. station_record s gap_bytes) (range_with_len 0 stations)) }
 {
     for station in 0..stations {
         put_station_record(text, station, &GAP_PACKET)?;

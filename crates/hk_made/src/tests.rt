@@ -18,7 +18,6 @@ struct Seen {
 
 // What is seen of the input for the seed 1.
 fn seen_of(alloc: Global, stations: u8, flips: u32) -> Result<Seen, NoMemory>
-    requires some_stations { 1 ≤ stations }
     requires few_stations { stations ≤ 64 }
     requires few_flips { flips ≤ 10 }
 {

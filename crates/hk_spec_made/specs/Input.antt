@@ -66,17 +66,27 @@ played_bytes flips highs n r s =
     let draws = drop (2 * words_before 8 + (r * n + s) * 600) highs in
     flat_map (λ i. print_bytes (played flips (slice_index song (40 * r + i)) (slice_index draws i % 32))) (range_with_len 0 600)
 
+-- what a station sends: the hello of prints, then round by round a packet of data and a gap
+abbrev pub hello_bytes : List ℕ
+hello_bytes = codes "HKS1" ++ 0 ∷ 1 ∷ []
+
+abbrev pub data_bytes : ℕ → List ℕ → ℕ → ℕ → ℕ → List ℕ
+data_bytes flips highs n r s = DATA ∷ to_be_bytes w16 4800 ++ played_bytes flips highs n r s
+
+abbrev pub gap_bytes : List ℕ
+gap_bytes = GAP ∷ 0 ∷ 0 ∷ []
+
 -- each round's commands, each station's prints, and a gap for each station
 abbrev pub round_records : ℕ → List ℕ → ℕ → ℕ × List (List ℕ) → List ℕ
 round_records flips highs n round =
     flat_map operator_record (round.1 ++ command_bytes PUBLISH [] ∷ [])
-    ++ flat_map (λ s. station_record s (DATA ∷ to_be_bytes w16 4800 ++ played_bytes flips highs n round.0 s)) (range_with_len 0 n)
-    ++ flat_map (λ s. station_record s (GAP ∷ 0 ∷ 0 ∷ [])) (range_with_len 0 n)
+    ++ flat_map (λ s. station_record s (data_bytes flips highs n round.0 s)) (range_with_len 0 n)
+    ++ flat_map (λ s. station_record s gap_bytes) (range_with_len 0 n)
 
 -- the input for a seed, so many stations and flips
 unfoldable pub make_input : ℕ → ℕ → ℕ → List ℕ
 make_input seed n flips =
     let highs = high_parts seed (2 * words_before 8 + 4 * n * 600) in
     operator_record (codes "HKO1")
-    ++ flat_map (λ s. station_record s (codes "HKS1" ++ 0 ∷ 1 ∷ [])) (range_with_len 0 n)
+    ++ flat_map (λ s. station_record s hello_bytes) (range_with_len 0 n)
     ++ flat_map (round_records flips highs n) (enumerate_from 0 (round_commands highs))
