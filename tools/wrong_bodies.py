@@ -4,7 +4,7 @@
     tools/wrong_bodies.py            writes them anew
     tools/wrong_bodies.py --check    says where they aren't up to date, with the status 1
 
-Each file crates/NAME/must-fail/EDIT.edit begins with a line 'harm: TEXT', which says what the wrong body would do to a
+Each file crates/NAME/must-fail/EDIT.edit begins with a line '# TEXT', which says what the wrong body would do to a
 user. Edits of one harm share a row. What stands in the document before the mark is written by hand.
 """
 
@@ -40,7 +40,7 @@ def edits_of(name):
     edits = []
     for path in sorted((ROOT / "crates" / name / "must-fail").glob("*.edit")):
         first = path.read_text().split("\n", 1)[0]
-        harm = first.removeprefix("harm: ") if first.startswith("harm: ") else None
+        harm = first.removeprefix("# ") if first.startswith("# ") else None
         edits.append((path.stem, harm))
     return edits
 
@@ -83,7 +83,7 @@ def main():
     check = parser.parse_args().check
     made, missing = tables()
     for path in missing:
-        print(f"{path} has no first line 'harm: ..'")
+        print(f"{path} has no first line '# ..'")
     now = DOCUMENT.read_text()
     if MARK not in now:
         sys.exit(f"{DOCUMENT.relative_to(ROOT)} has no line {MARK.strip()}")

@@ -168,7 +168,7 @@ module _ (rules : Rules) where
             ap (λ bs. flat_map printed_text (map (report_in station i.version i.songs) bs) ++ lines_over rules station (after_one rules l i) rest) one.gained
             ∙ ap (λ text. text ++ lines_over rules station (after_one rules l i) rest) (one_version station i.version i.songs past n one.more one.known)
             ∙ ap (λ text. lines_at station (songs_in past) here (map (λ block. i.version) here) ++ text)
-                (all.log ∙ ap (λ m. lines_at station (songs_in past) (enumerate_from m all.new) tail) place)
+            (all.log ∙ ap (λ m. lines_at station (songs_in past) (enumerate_from m all.new) tail) place)
             ∙ sym (lines_at-append station (songs_in past) here (map (λ block. i.version) here) (enumerate_from (n + length one.more) all.new) tail long)
             ∙ ap (λ ws. lines_at station (songs_in past) (here ++ enumerate_from (n + length one.more) all.new) (ws ++ tail)) (sym vs_here)
             ∙ ap (λ bs. lines_at station (songs_in past) bs (vs ++ tail)) (sym (enumerate-append n one.more all.new));

@@ -8,7 +8,6 @@ ghost use Rattle.hk_spec_runs.specs.OperatorState.{answer, after, new_state, at_
 ghost use Rattle.hk_spec_runs.specs.History.{history, IsLegal, Published, Looked};
 ghost use Rattle.hk_spec_streams.specs.Operator.{OpenSong, Audio, Close, Publish};
 ghost use Rattle.hk_spec_runs.specs.Replay.{replay, out};
-ghost use Rattle.hk_spec_runs.specs.Make.{high_parts, played};
 ghost use Rattle.hk_spec_runs.specs.Words.{order_of, Print};
 ghost use Rattle.hk_spec_streams.specs.Examples.{prints_hello};
 ghost use Rattle.hk_spec_runs.specs.Examples.{SMALL, TIGHT, MONO, SONG_3_OPEN, SONG_3_STAGED, SONGS_7, BLOCK_5, FOUND_5, OPERATOR_BYTES, STATION_BYTES, COMMANDS, answers};
@@ -80,12 +79,4 @@ pub fn history_examples()
     ensures order { history (SONGS_7 ∷ []) ((BLOCK_5 ∷ [], record { version = 1; list = FOUND_5 } ∷ []) ∷ (BLOCK_5 ∷ [], record { version = 0; list = [] } ∷ []) ∷ [])
         ≡ Looked (record { station = 1; number = 0; block = BLOCK_5; answer = [] }) ∷ Published SONGS_7 ∷ Looked (record { station = 0; number = 0; block = BLOCK_5; answer = FOUND_5 }) ∷ [] }
     ensures legal { IsLegal SMALL.limits (history (SONGS_7 ∷ []) ((BLOCK_5 ∷ [], record { version = 1; list = FOUND_5 } ∷ []) ∷ (BLOCK_5 ∷ [], record { version = 0; list = [] } ∷ []) ∷ [])) }
-{}
-
-/// The first draws from the seed 1, and a print with its flipped bit.
-#[tactic(auto, unfolding(crate::specs::Make::high_parts))]
-pub fn make_examples()
-    ensures draws { high_parts 1 2 ≡ 33676 ∷ 11517 ∷ [] }
-    ensures flipped { played 2 5 31 ≡ record { word = 2147483653; mask = 2147483649 } }
-    ensures plain { played 0 5 31 ≡ record { word = 5; mask = 0 } }
 {}
