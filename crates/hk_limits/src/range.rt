@@ -23,22 +23,40 @@ impl Range {
 pub const FLIPS: Range = Range { least: 0, most: 10 };
 
 /// The prints from a block to the next, at most those of a block.
-pub const HOP: Range = Range { least: 1, most: 256 };
+pub const HOP: Range = Range {
+    least: 1,
+    most: 256,
+};
 
 /// The stations of a run.
 pub const STATIONS: Range = Range { least: 1, most: 64 };
 
 /// How many songs there may be.
-pub const SONGS: Range = Range { least: 1, most: 65536 };
+pub const SONGS: Range = Range {
+    least: 1,
+    most: 65536,
+};
 
 /// How many words of all songs.
-pub const POSITIONS: Range = Range { least: 256, most: 16777216 };
+pub const POSITIONS: Range = Range {
+    least: 256,
+    most: 16777216,
+};
 
 /// How many versions.
-pub const VERSIONS: Range = Range { least: 1, most: 1000000000 };
+pub const VERSIONS: Range = Range {
+    least: 1,
+    most: 1000000000,
+};
 
 /// The bytes of a stream, and of an input.
-pub const BYTES: Range = Range { least: 1, most: 4000000000000000000 };
+pub const BYTES: Range = Range {
+    least: 1,
+    most: 4000000000000000000,
+};
 
 /// The seed of an input that is made.
-pub const SEED: Range = Range { least: 0, most: 2147483647 };
+pub const SEED: Range = Range {
+    least: 0,
+    most: 2147483647,
+};

@@ -60,9 +60,9 @@ module _ (d : Draft) (bytes : List ℕ) (order : IsInOrder bytes) (is : IsDraft 
       let sent : Form = record { channels = slice_index (drop 5 bytes) 4; factor = slice_index (drop 5 bytes) 5 } in
       whole_as OPEN_SONG at (
         ap (λ id. OpenSong id sent) (sym (is.id (has_id_is bytes order OPEN_SONG at) (omega (arith, payload, six))))
-        ∙ ap (λ c. OpenSong d.id (record { channels = c; factor = slice_index (drop 5 bytes) 5 })) (get_or-drop 5 bytes 4 0)
-        ∙ ap (λ f. OpenSong d.id (record { channels = slice_index bytes 9; factor = f })) (get_or-drop 5 bytes 5 0)
-        ∙ ap (OpenSong d.id) (sym form),
+            ∙ ap (λ c. OpenSong d.id (record { channels = c; factor = slice_index (drop 5 bytes) 5 })) (get_or-drop 5 bytes 4 0)
+            ∙ ap (λ f. OpenSong d.id (record { channels = slice_index bytes 9; factor = f })) (get_or-drop 5 bytes 5 0)
+            ∙ ap (OpenSong d.id) (sym form),
         subst IsAllowedForm (sym form) (order.channels content (omega (arith, payload, six)), order.factor content (omega (arith, payload, six))),
       ) refl
 

@@ -41,7 +41,7 @@ opens r run fits read limit stations hears obeys = record {
   read = read;
   limit = limit;
   stations = stations;
-  in_form = record { reads = refl; no_fault = no_text r.stations r.bytes; few = omega arith; };
+  in_form = record { reads = refl; no_fault = no_text r.stations r.bytes; few = omega arith };
   most = omega (arith, fits.bytes.1);
   holds = record { hears = hears; obeys = obeys };
   settled = none_settled (rules_meant r);

@@ -74,16 +74,19 @@ module _ (rules : Rules) (run : Run) (refused text : List ℕ) (byte : ℕ) (h :
 
     -- whatever bytes follow
     pub adds_some : (w y : Option (List ℕ)) → AddsSceneFront (scene_after rules refused text) next w y → TearsBehind (task_of (Replay rules)) refused text byte w y
-    adds_some w y adds = (refused', λ more.
-        let front = adds.2 in
-        let on = goes rules refused' (text ++ byte ∷ []) fine more in (
-          front.0,
-          front.1 ++ on.0,
-          ap (λ t. (task_of (Replay rules)).text t refused') (sym (append_assoc text (byte ∷ []) more)) ∙ on.1
-              ∙ ap (λ t. t ++ on.0) (prints_more adds.0 adds.1 ∙ ap (λ t. (task_of (Replay rules)).text text refused ++ t) front.2)
-              ∙ regrouped ((task_of (Replay rules)).text text refused) front.0 front.1 on.0,
-          front.4,
-        ))
+    adds_some w y adds = (
+      refused',
+      λ more.
+          let front = adds.2 in
+          let on = goes rules refused' (text ++ byte ∷ []) fine more in (
+            front.0,
+            front.1 ++ on.0,
+            ap (λ t. (task_of (Replay rules)).text t refused') (sym (append_assoc text (byte ∷ []) more)) ∙ on.1
+                ∙ ap (λ t. t ++ on.0) (prints_more adds.0 adds.1 ∙ ap (λ t. (task_of (Replay rules)).text text refused ++ t) front.2)
+                ∙ regrouped ((task_of (Replay rules)).text text refused) front.0 front.1 on.0,
+            front.4,
+          ),
+    )
       where
         regrouped : (t f m r : List ℕ) → (t ++ (f ++ m)) ++ r ≡ t ++ (f ++ (m ++ r))
         regrouped t f m r = simp append_assoc
@@ -97,7 +100,7 @@ module _ (rules : Rules) (run : Run) (refused text : List ℕ) (byte : ℕ) (h :
   stops trouble meets more =
       let met = input_met rules.stations rules.bytes in
       let fault = stops-fault met text byte more trouble h.in_form.no_fault meets in (
-        record { met = fault; wrong = ap (λ f. option_or f (option_map_or (λ r. Some (BadRecord r.place)) (open_record (text ++ byte ∷ more)) None)) fault; },
+        record { met = fault; wrong = ap (λ f. option_or f (option_map_or (λ r. Some (BadRecord r.place)) (open_record (text ++ byte ∷ more)) None)) fault },
         ap (printed_for rules refused) (stops-seen met text byte more trouble h.in_form.no_fault meets) ∙ sym (text_is rules refused text h.in_form.no_fault),
       )
 

@@ -8,8 +8,8 @@ ghost use Rattle.hk_words.specs.Options.{texts, pairs_of, RunValuesFit, PrintVal
 ghost use Rattle.hk_words.specs.Orders.{rules_meant, printing_meant, order_meant, RulesFit, PrintingFits, OrderFits};
 
 use crate::choice::{
-    BYTES, CHANNELS, Choice, FACTOR, FLIPS, HOP, MADE_STATIONS, POSITIONS, SONGS, STATIONS, VERSIONS,
-    Verb,
+    BYTES, CHANNELS, Choice, FACTOR, FLIPS, HOP, MADE_STATIONS, POSITIONS, SONGS, STATIONS,
+    VERSIONS, Verb,
 };
 use crate::number::read_number;
 use crate::options::{are_options, value};

@@ -42,7 +42,7 @@ returns-in-Block-clause-heard g c =
     let spelled = one_line c.args.self.now.number i.version c.args.self.now.lines (segment_of c.push.new.self) (ring_of c.push.new.self) i.songs in
     let bounded : c.report.new.steps ≤ c.args.steps.now + steps_of_next (g.V.Looker.looker c.args.view.now).room c.args.self.now i (block ∷ []) =
     steps_of_one (ring_of c.push.new.self) (g.V.Looker.looker c.args.view.now) (g.V.Looker.looker c.report.new.view) (segment_of c.push.new.self) c.args.self.now.lines c.args.steps.now c.report.new.steps
-        c.report.ensures.looks.room c.report.ensures.bound in
+    c.report.ensures.looks.room c.report.ensures.bound in
     ok_both (log_result c.report.result) (λ becomes wrote. record {
       text = _;
       answers = i.version ∷ [];
@@ -63,7 +63,7 @@ returns-in-Block-clause-torn g c = λ unended.
     let spelled = one_line c.args.self.now.number i.version c.args.self.now.lines (segment_of c.push.new.self) (ring_of c.push.new.self) i.songs in
     let bounded : c.report.new.steps ≤ c.args.steps.now + steps_of_next (g.V.Looker.looker c.args.view.now).room c.args.self.now i (block ∷ []) =
     steps_of_one (ring_of c.push.new.self) (g.V.Looker.looker c.args.view.now) (g.V.Looker.looker c.report.new.view) (segment_of c.push.new.self) c.args.self.now.lines c.args.steps.now c.report.new.steps
-        c.report.ensures.looks.room c.report.ensures.bound in
+    c.report.ensures.looks.room c.report.ensures.bound in
     err_both (log_result c.report.result) (λ becomes torn. record {
       line = _;
       steps = _;
