@@ -10,6 +10,7 @@ user. Edits of one harm share a row. What stands in the document before the mark
 
 import argparse
 import sys
+import textwrap
 from pathlib import Path
 
 ROOT = Path(__file__).resolve().parents[1]
@@ -59,7 +60,7 @@ def tables():
         if harms:
             lines.append(f"\n## {part}\n")
         for harm, crates in harms.items():
-            lines.append(f"- {harm}")
+            lines += textwrap.wrap(harm, 118, initial_indent="- ", subsequent_indent="  ")
             for name, edits in crates.items():
                 lines += folded(f"  `{name}`: ", [f"`{edit}`" for edit in edits])
     return "\n".join(lines) + "\n", missing
