@@ -6,7 +6,7 @@ ghost use Rattle.hk_replay.specs.Top.{task_asked, IfAsked, IsStatus, ENDED, IN_D
 
 use crate::printing::print;
 use crate::replaying::replay;
-use crate::statuses::USAGE;
+use crate::statuses;
 use hk_base::{Sink, Source, Status};
 use hk_words::{Order, read_words};
 use std::alloc::Global;
@@ -83,6 +83,8 @@ pub fn replay_top<S: Source, K: Sink>(
     match read_words(words) {
         Some(Order::Replay(rules)) => replay(alloc, &rules, input, out),
         Some(Order::Print(rules)) => print(alloc, &rules, input, out),
-        _ => Status { code: USAGE },
+        _ => Status {
+            code: statuses::USAGE,
+        },
     }
 }

@@ -1,14 +1,14 @@
 -- The end of an input: the summary.
-use Rattle.std.proofs.Common.{◌≡◌, ℕ, ◌<◌, List, ◌++◌, length, refl, sym, ◌∙◌, ap, subst, arith, length-append, append_assoc, Bool, true, false, Option, Some, None, Ok, Err, Result}
+use Rattle.std.proofs.Common.{◌≡◌, ℕ, List, refl, sym, ◌∙◌, ap, Bool, true, false, Option, Some, None, Ok, Err, Result}
 use Rattle.std.specs.Prelude.{◌&&◌, is_none, unwrap_or}
-use Rattle.std.specs.Option.{option_map_or, option_or}
+use Rattle.std.specs.Option.{option_map_or}
 use Rattle.std.specs.List.{list_all}
 use Rattle.hk_base.specs.declared.plain.OpEnd.{OpEnd}
 use Rattle.hk_base.specs.declared.plain.OpEnd.TheVariants as op_ends
 use Rattle.hk_base.specs.declared.plain.WireFault.{WireFault}
 use Rattle.hk_base.specs.declared.plain.Trouble.{Trouble}
 use Rattle.hk_spec_streams.specs.Station.{station_wrong}
-use Rattle.hk_spec_streams.specs.Operator.{commands, operator_wrong}
+use Rattle.hk_spec_streams.specs.Operator.{operator_wrong}
 use Rattle.hk_spec_streams.specs.Records.{input_wrong}
 use Rattle.hk_spec_lines.specs.Lines.{operator_line}
 use Rattle.hk_spec_runs.specs.OperatorState.{OperatorState}
