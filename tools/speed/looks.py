@@ -151,7 +151,7 @@ def main():
         for positions in given.positions:
             options = ["--positions", str(max(positions, 256)), "--songs", "65536"]
             for weak_bits in given.masks:
-                blocks = {0: 512, 4: 64}.get(weak_bits, 4)
+                blocks = {0: 8192, 4: 2048}.get(weak_bits, 32)
                 songs, prints = random_case(random.Random(17), positions, weak_bits, blocks)
                 ours, theirs, _ = bench.times(songs, prints, options, HOP)
                 per = 1000 / blocks
