@@ -90,6 +90,7 @@ impl Station {
             self.old self.new view.old view.new log.old log.new steps.old steps.new) }
         ensures tells { result ≡ progress_of (kept_end self.new) }
         ensures over { (end : End) → kept_end self.old ≡ Some end → (self.new ≡ self.old) × (view.new ≡ view.old) × (log.new ≡ log.old) }
+        ensures idle { (end : End) → kept_end self.old ≡ Some end → (scratch.new ≡ scratch.old) × (steps.new ≡ steps.old) }
         ensures number_stays { number_of self.new ≡ number_of self.old }
         ensures scratch_room { scratch.new.room ≡ scratch.old.room }
     {
@@ -123,6 +124,7 @@ impl Station {
             × WasTorn V.Looker K.Sink instants torn self.old self.new view.old view.new log.old log.new steps.old steps.new) }
         ensures tells { result ≡ progress_of (kept_end self.new) }
         ensures over { (end : End) → kept_end self.old ≡ Some end → (self.new ≡ self.old) × (view.new ≡ view.old) × (log.new ≡ log.old) }
+        ensures idle { (end : End) → kept_end self.old ≡ Some end → (scratch.new ≡ scratch.old) × (steps.new ≡ steps.old) }
         ensures number_stays { number_of self.new ≡ number_of self.old }
         ensures scratch_room { scratch.new.room ≡ scratch.old.room }
     {
