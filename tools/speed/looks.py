@@ -3,12 +3,14 @@
 
     tools/speed/looks.py [--positions N ..] [--masks N ..] [--rounds N] [--program PATH]
     tools/speed/looks.py --long
+    tools/speed/looks.py --sound FILE ..
 
 For each size of the catalogue and each number of weak bits a station sends prints of random words, of which every eighth
 block plays a recording. The time of a block is the user time of the run less that of one whose station sends a print too
 few for any block, divided by the blocks; the least of the rounds counts. The lists have to be those of
 looks_reference.c, which gcc builds here. --long is one recording of 250000 words, word i being i, and a station that
-sends its first 249856 words at the hop 8: 31201 report lines, which have to be the known ones.
+sends its first 249856 words at the hop 8: 31201 report lines, which have to be the known ones. --sound takes raw stereo of
+16 bits at 44.1 kHz, the low byte first: each file is a recording, and a station sends the prints of all of them.
 """
 
 import argparse
@@ -19,6 +21,7 @@ import struct
 import subprocess
 import sys
 import tempfile
+from collections import Counter
 from pathlib import Path
 
 HERE = Path(__file__).resolve().parent
@@ -132,12 +135,40 @@ def long_row(bench):
     print(f"31201 blocks of 250000 words: {ours:.2f} s, plain program {theirs:.2f} s, {ours / theirs:.2f} times")
 
 
+def bucket_sizes(songs):
+    """How many words each bucket has that has any."""
+    positions = sum(len(words) for _, words in songs)
+    bits = min(max(8, (positions - 1).bit_length()), 20)
+    return Counter((word * 2654435761 % 2**32) >> (32 - bits) for _, words in songs for word in words)
+
+
+def real_sound(bench, files):
+    """The time of a block where recordings of real sound are played, and the longest chain of a bucket."""
+    songs, prints = [], []
+    for number, file in enumerate(files):
+        with open(file, "rb") as sound:
+            command = [bench.program, "print", "--channels", "2", "--factor", "8"]
+            text = subprocess.run(command, stdin=sound, stdout=subprocess.PIPE, check=True).stdout.decode()
+        found = [(int(word, 16), int(mask, 16)) for _, word, mask in map(str.split, text.splitlines())]
+        if len(found) >= BLOCK:
+            songs.append((number + 1, [word for word, _ in found]))
+            prints += found
+    sizes = bucket_sizes(songs)
+    positions = sum(len(words) for _, words in songs)
+    ours, theirs, lists = bench.times(songs, prints, ["--positions", str(max(positions, 256))], HOP)
+    played = sum(1 for found in lists if not found.endswith(": none"))
+    print(f"{len(songs)} recordings, {positions} words, {len(lists)} blocks, {played} with matches; "
+          f"longest bucket {max(sizes.values())} words, {positions / len(sizes):.1f} in the mean")
+    print(f"{1000 * ours / len(lists):.3f} ms a block, plain program {1000 * theirs / len(lists):.3f} ms")
+
+
 def main():
     parser = argparse.ArgumentParser(description=__doc__, formatter_class=argparse.RawDescriptionHelpFormatter)
     parser.add_argument("--positions", type=int, nargs="+", default=[10**4, 10**5, 10**6, 16 * 10**6])
     parser.add_argument("--masks", type=int, nargs="+", default=[0, 4, 10])
     parser.add_argument("--rounds", type=int, default=3)
     parser.add_argument("--long", action="store_true")
+    parser.add_argument("--sound", nargs="+", metavar="FILE")
     parser.add_argument("--program", default=str(PROGRAM))
     given = parser.parse_args()
     if not Path(given.program).exists():
@@ -146,6 +177,9 @@ def main():
         bench = Bench(folder, given.program, given.rounds)
         if given.long:
             long_row(bench)
+            return
+        if given.sound:
+            real_sound(bench, given.sound)
             return
         print("positions weak bits blocks  ms a block  plain program  times")
         for positions in given.positions:
