@@ -1,19 +1,21 @@
 #!/usr/bin/env python3
 """Finds a song in what a station sends: sound, its sub-fingerprints, and the report line that names it.
 
-    examples/find_a_song.py [PROGRAM]
+    examples/find_a_song.py [--keep FOLDER] [PROGRAM]
 
-PROGRAM is hkreplay, and crates/hkreplay/out/hkreplay where none is given (`rt ci` builds it there). The song is six seconds
-of four voices, made of whole numbers alone. Its prints become recording 7. The station sends them from print 64 on, with
-three wrong bits in seven of eight words. The script writes the sound and the input beside each other into a folder of its own
-and prints what the program reports, which is in find_a_song.report.
+PROGRAM is hkreplay, and crates/hkreplay/out/hkreplay where none is given. The song is six seconds of four voices, made
+of whole numbers alone. Its prints become recording 7. The station sends them from print 64 on, with three wrong bits in
+seven of eight words. What the program reports is printed; it is that of find_a_song.report. With --keep the sound, its
+prints and the input are left in FOLDER, to look at.
 """
 
-import os
+import argparse
 import struct
 import subprocess
-import sys
-import tempfile
+from pathlib import Path
+
+import built
+from input_parts import OPERATOR_HELLO, PRINTS, PUBLISH, add, data, draws, operator, prints, station, station_hello
 
 RATE = 44100
 SECONDS = 6
@@ -38,12 +40,6 @@ def song():
     return struct.pack(f"<{len(samples)}h", *samples)
 
 
-def draws(seed):
-    while True:
-        seed = (1103515245 * seed + 12345) % 2**31
-        yield seed // 2**15
-
-
 def noisy(words):
     """Three wrong bits in seven of eight words."""
     numbers = draws(5)
@@ -54,43 +50,31 @@ def noisy(words):
         yield word
 
 
-def records(letter, stream):
-    """A stream in records of at most 4096 bytes."""
-    for i in range(0, len(stream), 4096):
-        yield letter + struct.pack(">H", len(stream[i : i + 4096])) + stream[i : i + 4096]
-
-
-def command(kind, payload):
-    return struct.pack(">BI", kind, len(payload)) + payload
-
-
-def packets(prints):
-    for i in range(0, len(prints), 500):
-        data = b"".join(struct.pack(">II", word, 0) for word in prints[i : i + 500])
-        yield struct.pack(">BH", 1, len(data)) + data
-
-
 def input_of(words):
-    """The song's words as recording 7, a publish, and a station that plays them."""
-    operator = b"HKO1" + command(1, struct.pack(f">I{len(words)}I", 7, *words)) + command(6, b"")
-    station = b"HKS1\0\1" + b"".join(packets(list(noisy(words[64:]))))
-    return b"".join(records(b"O", operator)) + b"".join(records(b"S\0", station))
+    """The song's words as recording 7, a publish, and a station that plays them from word 64 on."""
+    played = data(prints(noisy(words[64:])))
+    return operator(OPERATOR_HELLO, add(7, words), PUBLISH) + station(0, station_hello(PRINTS), played)
+
+
+def run(program, words, given):
+    return subprocess.run([program, *words], input=given, stdout=subprocess.PIPE, check=True).stdout
 
 
 def main():
-    here = os.path.dirname(os.path.dirname(os.path.abspath(__file__)))
-    program = sys.argv[1] if len(sys.argv) > 1 else os.path.join(here, "crates/hkreplay/out/hkreplay")
+    parser = argparse.ArgumentParser(description=__doc__, formatter_class=argparse.RawDescriptionHelpFormatter)
+    parser.add_argument("program", nargs="?", type=Path, default=built.PROGRAM, metavar="PROGRAM", help="hkreplay")
+    parser.add_argument("--keep", type=Path, metavar="FOLDER", help="leave the sound, its prints and the input there")
+    options = parser.parse_args()
+    program = built.need(options.program)
     sound = song()
-    lines = subprocess.run([program, "print", "--channels", "1", "--factor", "8"], input=sound, stdout=subprocess.PIPE, check=True)
-    words = [int(line.split()[1], 16) for line in lines.stdout.decode().splitlines()]
+    lines = run(program, ["print", "--channels", "1", "--factor", "8"], sound)
+    words = [int(line.split()[1], 16) for line in lines.decode().splitlines()]
     given = input_of(words)
-    folder = tempfile.mkdtemp(prefix="find_a_song.")
-    for name, data in (("song.raw", sound), ("song.prints", lines.stdout), ("song.input", given)):
-        with open(os.path.join(folder, name), "wb") as file:
-            file.write(data)
-    report = subprocess.run([program, "replay"], input=given, stdout=subprocess.PIPE, check=True)
-    print(f"{SECONDS} seconds of sound, {len(words)} prints, in {folder}")
-    print(report.stdout.decode(), end="")
+    if options.keep:
+        options.keep.mkdir(parents=True, exist_ok=True)
+        for name, content in (("song.raw", sound), ("song.prints", lines), ("song.input", given)):
+            (options.keep / name).write_bytes(content)
+    print(run(program, ["replay"], given).decode(), end="")
 
 
 if __name__ == "__main__":

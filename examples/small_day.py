@@ -1,36 +1,44 @@
 #!/usr/bin/env python3
 """Makes the input of a small day: two stations, an operator, four publishes.
 
-    examples/small_day.py PATH
-    hkreplay replay --stations 2 < PATH
+    examples/small_day.py | hkreplay replay --stations 2
+    examples/small_day.py FILE
 
-It writes about 540 kilobytes to PATH. What the second line prints is in small_day.report, and docs/USING.md goes through it.
-
-Station 0 sends sound: 11025 pairs of samples a second, left and right. It plays recording 102 from its sample 3000 on, less
-loud and with some noise. Station 1 sends prints: it plays recording 101 four times, with a wrong bit in every word.
-Recording 101 is added as words, and recording 102 as sound. All numbers are whole, and what looks random is drawn by a
-generator.
+It writes about 540 kilobytes, to FILE where one is given. What the first line prints is in small_day.report, and
+docs/USING.md goes through it. Station 0 sends sound: 11025 pairs of samples a second, left and right. It plays recording 102 from its sample
+3000 on, less loud and with some noise. Station 1 sends prints: it plays recording 101 four times, with a wrong bit in
+every word. Recording 101 is added as words, and recording 102 as sound. All numbers are whole, and what looks random is
+drawn by a generator.
 """
 
+import argparse
 import struct
 import sys
+from pathlib import Path
+
+from find_a_song import triangle
+from input_parts import (
+    CLOSE,
+    GAP,
+    OPERATOR_HELLO,
+    PRINTS,
+    PUBLISH,
+    add,
+    audio,
+    data,
+    draws,
+    fence,
+    open_song,
+    operator,
+    prints,
+    station,
+    station_hello,
+    withdraw,
+)
 
 RATE = 11025
 # samples from one note to the next
 NOTE = 245
-
-
-def draws(seed):
-    while True:
-        seed = (1103515245 * seed + 12345) % 2**31
-        yield seed // 2**15
-
-
-def triangle(t, period, height):
-    """A wave of straight lines between -height and height."""
-    place = t % period
-    rise = place if 2 * place < period else period - place
-    return rise * 4 * height // period - height
 
 
 def song(quarters):
@@ -63,65 +71,12 @@ def drawn_words(count, seed):
 
 def heard(words, numbers, weak):
     """Each word with a wrong bit; where `weak` holds of its number, the mask has the wrong bit and two more."""
-    prints = []
+    sent = []
     for n, word in enumerate(words):
         bit = next(numbers) % 32
         mask = sum(1 << (bit + 5 * i) % 32 for i in range(3)) if weak(n) else 0
-        prints.append(struct.pack(">II", word ^ (1 << bit), mask))
-    return b"".join(prints)
-
-
-# the operator's commands
-def command(kind, payload=b""):
-    return struct.pack(">BI", kind, len(payload)) + payload
-
-
-def add(number, words):
-    return command(1, struct.pack(f">I{len(words)}I", number, *words))
-
-
-def open_song(number, channels, factor):
-    return command(2, struct.pack(">IBB", number, channels, factor))
-
-
-def audio(data):
-    return command(3, data)
-
-
-CLOSE = command(4)
-PUBLISH = command(6)
-
-
-def withdraw(number):
-    return command(5, struct.pack(">I", number))
-
-
-# a station's packets
-def data(payload):
-    """Packets of at most 4000 bytes."""
-    pieces = [payload[i : i + 4000] for i in range(0, len(payload), 4000)]
-    return b"".join(struct.pack(">BH", 1, len(piece)) + piece for piece in pieces)
-
-
-def fence(version):
-    return struct.pack(">BHI", 2, 4, version)
-
-
-GAP = struct.pack(">BH", 3, 0)
-
-
-# the records of the input, each of at most 4096 bytes
-def records(head, stream):
-    pieces = [stream[i : i + 4096] for i in range(0, len(stream), 4096)]
-    return b"".join(head + struct.pack(">H", len(piece)) + piece for piece in pieces)
-
-
-def operator(*commands):
-    return records(b"O", b"".join(commands))
-
-
-def station(number, *packets):
-    return records(b"S" + bytes([number]), b"".join(packets))
+        sent.append(prints([word ^ (1 << bit)], mask))
+    return b"".join(sent)
 
 
 def day():
@@ -139,14 +94,14 @@ def day():
     weak, never = (lambda n: n % 50 == 7), (lambda n: False)
 
     # Recording 101 is added, and heard before and after it is published.
-    yield operator(b"HKO1", add(101, words))
-    yield station(1, b"HKS1", bytes([0, 1]), data(heard(words[:256], wrong, weak)))
+    yield operator(OPERATOR_HELLO, add(101, words))
+    yield station(1, station_hello(PRINTS), data(heard(words[:256], wrong, weak)))
     yield operator(PUBLISH)
     yield station(1, fence(1), data(heard(words[256:], wrong, weak)))
 
     # Station 0 plays recording 102 while that is added as sound, in two halves.
     half = len(tune) // 2
-    yield station(0, b"HKS1", bytes([2, 2]), hear(0, 14))
+    yield station(0, station_hello(2, 2), hear(0, 14))
     yield operator(open_song(102, 2, 2), audio(sound(tune[:half])))
     yield operator(audio(sound(tune[half:])), CLOSE)
     yield station(0, hear(14, 17))
@@ -169,11 +124,12 @@ def day():
 
 
 def main():
-    if len(sys.argv) != 2:
-        sys.exit(__doc__)
-    with open(sys.argv[1], "wb") as file:
-        for part in day():
-            file.write(part)
+    parser = argparse.ArgumentParser(description=__doc__, formatter_class=argparse.RawDescriptionHelpFormatter)
+    parser.add_argument("file", nargs="?", type=Path, metavar="FILE", help="what to write (standard output)")
+    file = parser.parse_args().file
+    if file is None and sys.stdout.isatty():
+        sys.exit("the input is bytes: give a file, or let a program read them")
+    (sys.stdout.buffer.write if file is None else file.write_bytes)(b"".join(day()))
 
 
 if __name__ == "__main__":

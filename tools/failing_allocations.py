@@ -1,20 +1,22 @@
 #!/usr/bin/env python3
-"""Runs `hkreplay` with allocations that fail, and checks that each run ends as docs/USING.md says.
+"""Runs hkreplay with allocations that fail, and checks that each run ends as docs/USING.md says.
 
-    tools/failing_allocations.py PROGRAM
+    tools/failing_allocations.py [--program PATH]
 
-PROGRAM is the path of `hkreplay`. Two inputs are played: examples/first.input, and fifteen operator commands of which most
-are refused. For n = 1, 2, and so on up to the first number that no run reaches, allocation n fails alone, and then
-allocation n and all behind it. Each run has to end in one of two ways:
+Two inputs are played, examples/first.input and fifteen operator commands of which most are refused; and `make` plays one
+of its own. For n = 1, 2, and
+so on up to the first number that no run reaches, allocation n fails alone, and then allocation n and all behind it.
+Each run has to end in one of two ways:
 
     with status 4, nothing on standard output, and `hkreplay: no memory` on standard error;
-    as replay_model.py says where the commands whose reply is `refused no-memory` are refused for want of memory.
+    as the model in tools/model says where the commands whose reply is `refused no-memory` are refused for that; for
+    `make` with its line.
 
-A library of a few lines of C stands before the program's malloc, calloc and realloc. It needs gcc and the GNU C library; where
-gcc is missing nothing is checked. One line for each input and way of failing says what was seen. The exit status is 1 where
-some run ended otherwise.
+A library of a few lines of C stands before the program's malloc, calloc and realloc. It needs gcc and the C library of
+GNU. One line for each input and way of failing says what was seen. The status is 1 where some run ended otherwise.
 """
 
+import argparse
 import functools
 import itertools
 import os
@@ -23,12 +25,19 @@ import shutil
 import subprocess
 import sys
 import tempfile
+from pathlib import Path
 
-sys.path.insert(0, os.path.dirname(os.path.abspath(__file__)))
+ROOT = Path(__file__).resolve().parents[1]
+sys.path += [str(ROOT / folder) for folder in ("tools/model", "tools", "examples")]
+
+import built  # noqa: E402
+import fifteen_commands  # noqa: E402
+import made_input  # noqa: E402
 import replay_model as model  # noqa: E402
 
-ROOT = os.path.dirname(os.path.dirname(os.path.abspath(__file__)))
 NO_MEMORY = (4, "", "hkreplay: no memory\n")
+MADE_LINES = {tuple(words): line + "\n" for words, line in made_input.cases()}
+MADE_WORDS = "make 5 --stations 1 --flips 1 --hop 256".split()
 LAST = 2**62
 LIBRARY = r"""
 #include <errno.h>
@@ -80,7 +89,7 @@ __attribute__((destructor)) static void end(void)
 """
 
 
-def built(folder):
+def failing(folder):
     """The library that makes allocations fail."""
     source, library = os.path.join(folder, "failing.c"), os.path.join(folder, "failing.so")
     with open(source, "w") as file:
@@ -94,13 +103,14 @@ class Runs:
 
     def __init__(self, program, folder, words, data):
         self.program, self.words, self.data = program, words, data
-        self.library, self.counter = built(folder), os.path.join(folder, "count")
+        self.library, self.counter = failing(folder), os.path.join(folder, "count")
 
     def run(self, first, last):
-        """The status and both texts where the allocations from `first` to `last` fail, and how many were asked for, where
-        the program came to its end."""
-        settings = {"LD_PRELOAD": self.library, "FAILING_FIRST": str(first), "FAILING_LAST": str(last), "FAILING_COUNT": self.counter}
-        done = subprocess.run([self.program, *self.words], input=self.data, env={**os.environ, **settings}, capture_output=True)
+        """The status and both texts where the allocations from `first` to `last` fail, and how many were asked for,
+        where the program came to its end."""
+        failing = {"FAILING_FIRST": str(first), "FAILING_LAST": str(last), "FAILING_COUNT": self.counter}
+        around = {**os.environ, "LD_PRELOAD": self.library, **failing}
+        done = subprocess.run([self.program, *self.words], input=self.data, env=around, capture_output=True)
         count = None
         if os.path.exists(self.counter):
             with open(self.counter, "rb") as file:
@@ -110,6 +120,8 @@ class Runs:
 
     @functools.lru_cache(maxsize=None)
     def expected(self, no_memory):
+        if self.words[0] == "make":
+            return 0, MADE_LINES[tuple(self.words[1:])], ""
         return model.outcome(self.words, self.data, no_memory)
 
     def verdict(self, outcome):
@@ -148,24 +160,22 @@ def told(seen):
 
 def inputs():
     """The name, the words and the bytes of each input."""
-    with open(os.path.join(ROOT, "examples", "first.input"), "rb") as file:
-        first = file.read()
-    with open(os.path.join(ROOT, "crates", "hkreplay", "args")) as file:
-        words = file.read().split()
-    yield "first input", words, first
-    yield "fifteen commands", model.FIFTEEN_WORDS.split(), model.fifteen_commands_input()
+    words = (ROOT / "crates/hkreplay/args").read_text().split()
+    yield "first input", words, (ROOT / "examples/first.input").read_bytes()
+    yield "fifteen commands", fifteen_commands.WORDS.split(), fifteen_commands.input_of_them()
+    yield "make", MADE_WORDS, b"left alone"
 
 
 def main():
-    if len(sys.argv) != 2:
-        sys.exit(__doc__)
+    parser = argparse.ArgumentParser(description=__doc__, formatter_class=argparse.RawDescriptionHelpFormatter)
+    built.add_option(parser)
+    program = built.need(parser.parse_args().program)
     if shutil.which("gcc") is None:
-        print("nothing was checked: there is no gcc to build the library that makes allocations fail")
-        return
+        sys.exit("nothing was checked: there is no gcc to build the library that makes allocations fail")
     wrong = 0
     with tempfile.TemporaryDirectory(prefix="failing_allocations.") as folder:
         for name, words, data in inputs():
-            runs = Runs(os.path.abspath(sys.argv[1]), folder, words, data)
+            runs = Runs(program, folder, words, data)
             if runs.run(0, 0)[1] is None:
                 sys.exit("the program doesn't take its memory through the library")
             wrong += runs.sweep(f"{name}, one fails", lambda n: n)

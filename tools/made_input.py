@@ -5,7 +5,7 @@ made_input.py SEED [--stations N] [--flips K] > FILE     writes the input
 made_input.py --digests                                   the numbers of the tests in crates/hk_made
 made_input.py --lines PROGRAM                             the M line for each case of made_lines.txt, by replaying the
                                                           input with PROGRAM (hkreplay) or, where PROGRAM is `model`,
-                                                          with tools/replay_model.py
+                                                          with tools/model/replay_model.py
 made_input.py --compare PROGRAM                           compares these with made_lines.txt
 """
 import os
@@ -99,7 +99,7 @@ def line_of(report):
 
 
 def replayed(program, data, options):
-    words = [sys.executable, os.path.join(HERE, "replay_model.py")] if program == "model" else [program]
+    words = [sys.executable, os.path.join(HERE, "model/replay_model.py")] if program == "model" else [program]
     run = subprocess.run(words + ["replay"] + options, input=data, stdout=subprocess.PIPE, check=False)
     if run.returncode != 0:
         sys.exit(f"{program} replay {' '.join(options)}: status {run.returncode}")
@@ -129,7 +129,9 @@ def option(words, name, default):
 
 
 def main(words):
-    if words[:1] == ["--digests"]:
+    if words[:1] in (["--help"], ["-h"]):
+        print(__doc__)
+    elif words[:1] == ["--digests"]:
         for stations in (1, 4):
             for flips in (0, 1, 4):
                 data = made_input(1, stations, flips)

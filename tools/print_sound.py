@@ -1,26 +1,29 @@
 #!/usr/bin/env python3
-"""Prints the sub-fingerprints of sound straight from the formulas, as `hkreplay print` does, and makes sound to try it on.
+"""Prints the sub-fingerprints of sound straight from the formulas, as `hkreplay print` does, and makes sound for that.
 
-    print_sound.py make SEED BYTES > sound.raw                    pseudo-random samples of 16 bits
-    print_sound.py print CHANNELS FACTOR FLIPS < sound.raw        a line for each print
-    print_sound.py digest CHANNELS FACTOR FLIPS < sound.raw       how many lines there are, and a digest of their bytes
+    tools/print_sound.py make SEED BYTES > sound.raw                pseudo-random samples of 16 bits
+    tools/print_sound.py print CHANNELS FACTOR FLIPS < sound.raw    a line for each print
+    tools/print_sound.py digest CHANNELS FACTOR FLIPS < sound.raw   how many lines there are, and a digest of them
 
-Whole numbers alone. It shares no line with the crates; the test of the prints of pseudo-random sound holds a digest from it.
-It is slow: about half a minute for ten seconds of sound.
+Whole numbers alone. It shares no line with the crates; the test of the prints of pseudo-random sound holds a digest
+from it. It is slow: about half a minute for ten seconds of sound.
 """
 
+import argparse
+import itertools
 import sys
 from array import array
+from pathlib import Path
 
-from sound_vectors import decimated, digest, energies, frames_of, real, transform, windowed
+sys.path.append(str(Path(__file__).resolve().parents[1] / "examples"))
+
+from input_parts import draws  # noqa: E402
+from sound_vectors import decimated, digest, energies, frames_of, real, transform, windowed  # noqa: E402
 
 
 def made(seed, count):
     """So many bytes of samples: each is the high part of a draw, less 32768."""
-    state, samples = seed, array("h")
-    for _ in range((count + 1) // 2):
-        state = (1103515245 * state + 12345) % 2**31
-        samples.append(state // 2**15 - 32768)
+    samples = array("h", (high - 32768 for high in itertools.islice(draws(seed), (count + 1) // 2)))
     if sys.byteorder == "big":
         samples.byteswap()
     return samples.tobytes()[:count]
@@ -30,14 +33,21 @@ def mono(channels, data):
     """The mean of each group of samples, rounded down."""
     size = 2 * channels
     groups = (data[i : i + size] for i in range(0, len(data) - size + 1, size))
-    return [sum(int.from_bytes(g[k : k + 2], "little", signed=True) for k in range(0, size, 2)) // channels for g in groups]
+    return [
+        sum(int.from_bytes(g[k : k + 2], "little", signed=True) for k in range(0, size, 2)) // channels for g in groups
+    ]
 
 
 def prints(channels, factor, flips, data):
     """The word and the mask of each print."""
+    frames = frames_of(decimated_fast(factor, mono(channels, data)))
+    return prints_of_energies(flips, (energies(transform(real(windowed(frame)))) for frame in frames))
+
+
+def prints_of_energies(flips, frames):
+    """The word and the mask of each print, of the energies of the frames."""
     before, out = None, []
-    for frame in frames_of(decimated_fast(factor, mono(channels, data))):
-        now = energies(transform(real(windowed(frame))))
+    for now in frames:
         if before is not None:
             falls = [(now[m] - now[m + 1]) - (before[m] - before[m + 1]) for m in range(32)]
             weak = sorted(range(32), key=lambda m: (abs(falls[m]), m))[:flips]
@@ -59,12 +69,22 @@ def text(found):
 
 
 def main():
-    command, numbers = sys.argv[1], [int(word) for word in sys.argv[2:]]
-    if command == "make":
-        sys.stdout.buffer.write(made(*numbers))
+    parser = argparse.ArgumentParser(description=__doc__, formatter_class=argparse.RawDescriptionHelpFormatter)
+    commands = parser.add_subparsers(dest="command", required=True, metavar="make|print|digest")
+    for name, numbers in (
+        ("make", "seed bytes"),
+        ("print", "channels factor flips"),
+        ("digest", "channels factor flips"),
+    ):
+        command = commands.add_parser(name)
+        for number in numbers.split():
+            command.add_argument(number, type=int)
+    options = parser.parse_args()
+    if options.command == "make":
+        sys.stdout.buffer.write(made(options.seed, options.bytes))
         return
-    lines = text(prints(*numbers, sys.stdin.buffer.read()))
-    if command == "print":
+    lines = text(prints(options.channels, options.factor, options.flips, sys.stdin.buffer.read()))
+    if options.command == "print":
         sys.stdout.write(lines)
     else:
         print(lines.count("\n"), "lines, digest", digest(lines.encode()))

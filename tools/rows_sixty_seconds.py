@@ -1,17 +1,18 @@
 #!/usr/bin/env python3
-"""The report on sixty seconds of sound that were added as a recording and are then sent by a station, from the formulas.
+"""The report on sixty seconds of sound that were added as a recording and are then sent, from the formulas.
 
-    print_sound.py make 17 10584000 > sixty.raw
-    print_sound.py print 2 8 4 < sixty.raw > sixty.prints
-    rows_sixty_seconds.py sixty.prints            the prints' and the report's counts and digests
-    rows_sixty_seconds.py sixty.prints --text     the report
+    tools/print_sound.py make 17 10584000 > sixty.raw
+    tools/print_sound.py print 2 8 4 < sixty.raw > sixty.prints
+    tools/rows_sixty_seconds.py sixty.prints            the prints' and the report's counts and digests
+    tools/rows_sixty_seconds.py sixty.prints --text     the report
 
-The sound is recording 5, added as sound and published, and station 0 sends it. A start is listed where at most 2867 bits
-differ and some word meets an equal one with a choice of its weak bits flipped. Whole numbers alone; it shares no line with the
-crates, and a test of the whole replay holds what it prints. The prints take some minutes, the report some seconds.
+The sound is recording 5, added as sound and published, and station 0 sends it. A start is listed where at most 2867
+bits differ and some word meets an equal one with a choice of its weak bits flipped. Whole numbers alone; it shares no
+line with the crates, and a test of the whole replay holds what it prints. The prints take some minutes, the report seconds.
 """
 
-import sys
+import argparse
+from pathlib import Path
 
 from sound_vectors import digest
 
@@ -51,11 +52,14 @@ def report(prints):
 
 
 def main():
-    with open(sys.argv[1]) as file:
-        lines = file.read()
+    parser = argparse.ArgumentParser(description=__doc__, formatter_class=argparse.RawDescriptionHelpFormatter)
+    parser.add_argument("prints", type=Path, help="the file of prints")
+    parser.add_argument("--text", action="store_true", help="print the report itself")
+    options = parser.parse_args()
+    lines = options.prints.read_text()
     prints = [(int(word, 16), int(mask, 16)) for _, word, mask in map(str.split, lines.splitlines())]
     text = report(prints)
-    if "--text" in sys.argv:
+    if options.text:
         print(text, end="")
         return
     for name, written in (("prints", lines), ("report", text)):

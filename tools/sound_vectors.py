@@ -5,6 +5,7 @@ Whole numbers alone: Python's // rounds down and its integers have no bound, so 
 rounded by chance. It shares no line with the crates. Run it with no arguments; the tests hold what it prints.
 """
 
+import argparse
 from math import isqrt
 
 RADIUS = 2**30
@@ -123,7 +124,7 @@ def halves(energies_of_bands):
 
 
 def unlike_conjugates(bins):
-    """How many of the upper bins are not the conjugates of the lower ones: rounding is not odd where it meets a half."""
+    """How many of the upper bins aren't the conjugates of the lower ones: rounding isn't odd where it meets a half."""
     return sum(1 for k in range(1, SAMPLES // 2) if bins[SAMPLES - k] != (bins[k][0], -bins[k][1]))
 
 
@@ -132,6 +133,7 @@ def impulse(place):
 
 
 def main():
+    argparse.ArgumentParser(description=__doc__, formatter_class=argparse.RawDescriptionHelpFormatter).parse_args()
     print("decimation of 1000 pseudo-random samples")
     for factor in (1, 2, 4, 8):
         ys = decimated(factor, draws(3, 1000, 16))
@@ -143,14 +145,16 @@ def main():
         print(f"  ({k}, {C[k]}, {S[k]}, {W[k]}),")
     print("frames of 2303 pseudo-random samples")
     fs = frames_of(draws(7, 2303, 16))
-    print(f"  {len(fs)} frames, digest {digest([y for f in fs for y in windowed(f)])}, first {windowed(fs[0])[512:515]}")
+    weighted = digest([y for f in fs for y in windowed(f)])
+    print(f"  {len(fs)} frames, digest {weighted}, first {windowed(fs[0])[512:515]}")
     print("transform")
     frames = [(f"impulse at {place}", impulse(place)) for place in (0, 1, 777, 2047)]
     frames.append(("square", real([32767 if k // 4 % 2 == 0 else -32768 for k in range(SAMPLES)])))
     frames.append(("pseudo-random", real(draws(SEED, SAMPLES, 16))))
     for name, frame in frames:
         bins = transform(frame)
-        print(f"  {name}: digest {digest(flat(bins))}, bin 256 {bins[256]}, {unlike_conjugates(bins)} unlike their conjugates")
+        unlike = unlike_conjugates(bins)
+        print(f"  {name}: digest {digest(flat(bins))}, bin 256 {bins[256]}, {unlike} unlike their conjugates")
     print("bands")
     parts = draws(5, 2 * SAMPLES, 34)
     es = energies(list(zip(parts[:SAMPLES], parts[SAMPLES:])))

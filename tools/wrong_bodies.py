@@ -18,8 +18,10 @@ DOCUMENT = ROOT / "docs/WRONG_BODIES.md"
 MARK = "<!-- From here on made by tools/wrong_bodies.py -->\n"
 PARTS = (
     ("Ground", ("hk_base",)),
-    ("Sound", ("hk_circle", "hk_pcm", "hk_decimate", "hk_frames", "hk_transform", "hk_bands", "hk_weak", "hk_subprint", "hk_front")),
-    ("Matching and the catalogue", ("hk_block", "hk_errors", "hk_nodes", "hk_table", "hk_catalogue", "hk_probe")),
+    ("Sound", ("hk_circle", "hk_pcm", "hk_decimate", "hk_frames", "hk_transform", "hk_bands", "hk_weak", "hk_subprint",
+               "hk_front")),
+    ("Matching and the catalogue", ("hk_block", "hk_errors", "hk_nodes", "hk_table", "hk_catalogue", "hk_probe",
+                                    "hk_journal", "hk_publish")),
     ("Streams and text", ("hk_wire", "hk_station_wire", "hk_operator_wire", "hk_records", "hk_words", "hk_report")),
     ("Stations and the operator", ("hk_receiver", "hk_station", "hk_operator")),
     ("Runs and the program", ()),

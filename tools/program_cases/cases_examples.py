@@ -1,6 +1,6 @@
 """The examples of the repository: each input gives the report that lies beside it.
 
-`tools/replay_model.py --self-test` compares the same reports with a model that was written from the formats alone.
+`tools/model/replay_model.py --self-test` compares the same reports with a model, written from the formats alone.
 """
 
 import sys

@@ -4,8 +4,9 @@
     tools/program_cases/program_cases.py [--program PATH] [--only WORD] [--list]
 
 The cases stand in the files cases_*.py beside this one. What they want was written by hand from the formats and the
-method, never taken from a program. It prints a line for each case that fails, and last 'N passed, M failed'. The status
-is 1 where anything failed, and where the program isn't built. It takes some seconds.
+method, never taken from the program; the lines of `make` come from the model. It prints a line for each case that fails,
+and last 'N passed, M failed'. The status is 1 where anything failed, and where the program isn't built. It takes some
+seconds.
 """
 
 import argparse
@@ -22,6 +23,7 @@ from pathlib import Path
 import cases_devices
 import cases_examples
 import cases_faults
+import cases_make
 import cases_replay
 import cases_sound
 import cases_words
@@ -30,7 +32,7 @@ from case import Broken, Input, Output, Pipe, Room
 ROOT = Path(__file__).resolve().parents[2]
 PROGRAM = ROOT / "crates/hkreplay/out/hkreplay"
 BUILD = "(cd crates/hkreplay && rt run -- replay < ../../examples/first.input)"
-TABLES = (cases_examples, cases_words, cases_replay, cases_faults, cases_sound, cases_devices)
+TABLES = (cases_examples, cases_words, cases_replay, cases_faults, cases_sound, cases_make, cases_devices)
 CASES = [case for table in TABLES for case in table.CASES]
 SECONDS = 20
 SHOWN = 60

@@ -4,9 +4,11 @@
     tools/scan_time/scan_time.py
 
 It builds plain_loop.rs with rustc -O and runs it. Then it copies the repository to a temporary folder, adds the program
-of program.txt there as a crate over hk_probe, and proves, builds and runs it with rt. Both print the best of their runs.
-The copy's crates are proved first, unless rt keeps them from an earlier rt ci.
+of program.txt there as a crate over hk_probe, and proves, builds and runs it with rt. Both print the best of their
+runs. The copy's crates are proved first, unless rt keeps them from an earlier rt ci.
 """
+
+import argparse
 import pathlib
 import shutil
 import subprocess
@@ -55,9 +57,14 @@ def plain_loop(folder):
 
 
 def main():
+    argparse.ArgumentParser(description=__doc__, formatter_class=argparse.RawDescriptionHelpFormatter).parse_args()
+    for name in ("rustc", "rt"):
+        if shutil.which(name) is None:
+            sys.exit(f"there is no {name}")
     with tempfile.TemporaryDirectory() as folder:
         plain_loop(pathlib.Path(folder))
         our_scan(pathlib.Path(folder))
 
 
-main()
+if __name__ == "__main__":
+    main()

@@ -4,9 +4,11 @@
     tools/table_random/table_random.py
 
 It copies the repository to a temporary folder, adds the program of program.txt there as a crate over hk_catalogue, and
-proves, builds and runs it with rt. After each edit the program prints how many places a walk gives for one word, and a sum
-over them. This script makes the same edits in a dictionary and compares each line.
+proves, builds and runs it with rt. After each edit the program prints how many places a walk gives for one word, and a
+sum over them. This script makes the same edits in a dictionary and compares each line.
 """
+
+import argparse
 import pathlib
 import shutil
 import subprocess
@@ -86,6 +88,9 @@ def printed(folder):
 
 
 def main():
+    argparse.ArgumentParser(description=__doc__, formatter_class=argparse.RawDescriptionHelpFormatter).parse_args()
+    if shutil.which("rt") is None:
+        sys.exit("there is no rt")
     with tempfile.TemporaryDirectory() as folder:
         lines = printed(folder)
     wanted = list(expected())
@@ -98,4 +103,5 @@ def main():
     print(f"{EDITS} edits and as many walks agree, which gave {found} places")
 
 
-main()
+if __name__ == "__main__":
+    main()

@@ -3,7 +3,7 @@ ghost use Rattle.std.specs.Prelude.{◌≡◌, ◌≤◌, ◌<◌, ◌+◌, ◌-
 ghost use Rattle.std.specs.Option.{option_map_or};
 ghost use Rattle.hk_base.specs.Devices.{Rose, IfBytes, OnEnd, OnNothing, OnFailed, OnNoFailure, Took, IsNothing, Wrote};
 
-use crate::{Failed, Got, NoMemory, Sink, Source};
+use crate::{Failed, Flag, Got, NoMemory, Sink, Source};
 use std::alloc::Global;
 
 /// Bytes in memory as a source. It tells what is left of them.
@@ -98,12 +98,34 @@ impl Source for MemorySource {
     }
 }
 
+// A flag that a sink raises once this text stands in it.
+#[derive(Drop)]
+struct Alarm {
+    flag: Flag,
+    text: Vec<u8>,
+}
+
+impl Alarm {
+    // Raises the flag where the text stands in what was written.
+    fn hear(&self, written: &[u8]) {
+        let len = self.text.len();
+        if len == 0
+            || written
+                .windows(len)
+                .any(|bytes| bytes == self.text.as_slice())
+        {
+            self.flag.raise();
+        }
+    }
+}
+
 /// Room in memory as a sink. It tells what was written.
 #[derive(Drop)]
 pub struct MemorySink {
     bytes: Vec<u8>,
     room: u32,
     failing: Vec<u64>,
+    alarm: Option<Alarm>,
     writes: u64,
     faults: u64,
     ghost within: { vec_len bytes ≤ room },
@@ -126,9 +148,27 @@ impl MemorySink {
             bytes,
             room,
             failing,
+            alarm: None,
             writes: 0,
             faults: 0,
         })
+    }
+
+    /// Such a sink that raises `flag` once what was written contains `text`: at once where the text is empty.
+    pub fn raising(
+        alloc: Global,
+        room: u32,
+        failing: Vec<u64>,
+        flag: Flag,
+        text: Vec<u8>,
+    ) -> Result<MemorySink, NoMemory>
+        ensures { IfOk result (IsNewSink room failing.items) }
+    {
+        let alarm = Alarm { flag, text };
+        alarm.hear(&[]);
+        let mut sink = MemorySink::new(alloc, room, failing)?;
+        sink.alarm = Some(alarm);
+        Ok(sink)
     }
 
     /// All that was written.
@@ -170,7 +210,12 @@ impl Sink for MemorySink {
         }
         let n = free.min(piece.len());
         match self.bytes.extend_from_slice(&piece[..n]) {
-            Ok(()) => Ok(n),
+            Ok(()) => {
+                if let Some(alarm) = &self.alarm {
+                    alarm.hear(self.bytes.as_slice());
+                }
+                Ok(n)
+            }
             Err(_) => unreachable!(),
         }
     }

@@ -8,7 +8,7 @@ use Rattle.std.proofs.lemmas.Nat.{div-add-mod'}
 use Rattle.hk_base.specs.declared.plain.Print.{Print}
 use Rattle.hk_spec_sound.specs.Windows.{windows, window, window_count}
 use Rattle.hk_spec_sound.proofs.GrowingWindows.{windows-append, window_count-more, completes}
-use Rattle.hk_block.specs.Ring.{Ring, HasTaken, Takes, AddsBlock, PlacesBlock, BLOCK_SIZE, completes_block}
+use Rattle.hk_block.specs.Ring.{Ring, HasLastPrints, Takes, AddsBlock, PlacesBlock, BLOCK_SIZE, completes_block}
 
 pub both : (a b : Bool) → (a && b) ≡ true → (a ≡ true) × (b ≡ true)
 both true b is = (refl, is)
@@ -42,7 +42,7 @@ unfolding windows
 length-windows size step xs = length-map-range_with_len (window size step xs) 0 (window_count size step (length xs))
 
 -- the ring's test is the windows' test
-same_test : (old new : Ring) (print : Print) (prints : List Print) → new.hop ≡ old.hop → HasTaken new (prints ++ print ∷ [])
+same_test : (old new : Ring) (print : Print) (prints : List Print) → new.hop ≡ old.hop → HasLastPrints new (prints ++ print ∷ [])
     → completes_block new ≡ completes BLOCK_SIZE old.hop (length prints + 1)
 same_test old new print prints hop has =
     ap (λ n. nat_le BLOCK_SIZE n && ((n - BLOCK_SIZE) % new.hop == 0)) (has.count ∙ length-append prints (print ∷ []))
@@ -57,7 +57,7 @@ added hop prints print last false some is end = refl
 -- a print adds to the blocks what the ring then holds, where it completes a block
 pub block-added : (old new : Ring) (print : Print) → 0 < old.hop → Takes old print new → AddsBlock old print new
 block-added old new print some takes prints has =
-    let after : HasTaken new (prints ++ print ∷ []) = takes.1 prints has in
+    let after : HasLastPrints new (prints ++ print ∷ []) = takes.1 prints has in
     let test : completes_block new ≡ completes BLOCK_SIZE old.hop (length prints + 1) = same_test old new print prints takes.0 after in
     ap (λ h. windows BLOCK_SIZE h (prints ++ print ∷ [])) takes.0
     ∙ windows-append BLOCK_SIZE old.hop prints print some
@@ -67,7 +67,7 @@ block-added old new print some takes prints has =
 -- and that block begins as many hops from the first print as there were blocks
 pub block-placed : (old new : Ring) (print : Print) → 0 < old.hop → Takes old print new → PlacesBlock old print new
 block-placed old new print some takes prints has is =
-    let after : HasTaken new (prints ++ print ∷ []) = takes.1 prints has in
+    let after : HasLastPrints new (prints ++ print ∷ []) = takes.1 prints has in
     let test : completes_block new ≡ completes BLOCK_SIZE old.hop (length prints + 1) = same_test old new print prints takes.0 after in
     let done : completes BLOCK_SIZE old.hop (length prints + 1) ≡ true = sym test ∙ is in
     let times : window_count BLOCK_SIZE old.hop (length prints) * old.hop ≡ length prints + 1 - BLOCK_SIZE = count_times BLOCK_SIZE old.hop (length prints) some done in

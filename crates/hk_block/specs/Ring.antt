@@ -18,7 +18,7 @@ pub record Ring : Type 0 where
   pub hop : ℕ
 
 -- The ring has taken these prints: it has their number, and the last 256 of them. It need not store them for that.
-pub record HasTaken (ring : Ring) (prints : List Print) : Type 0 where
+pub record HasLastPrints (ring : Ring) (prints : List Print) : Type 0 where
   pub count : ring.count ≡ length prints
   pub last : ring.last ≡ drop (length prints - BLOCK_SIZE) prints
 
@@ -35,7 +35,7 @@ completes_block ring = is_full ring && (first_word ring % ring.hop == 0)
 
 -- one print more, whatever prints were taken before, at the same hop
 abbrev pub Takes : Ring → Print → Ring → Type 0
-Takes old print new = (new.hop ≡ old.hop) × ((prints : List Print) → HasTaken old prints → HasTaken new (prints ++ print ∷ []))
+Takes old print new = (new.hop ≡ old.hop) × ((prints : List Print) → HasLastPrints old prints → HasLastPrints new (prints ++ print ∷ []))
 
 -- the blocks of a segment's prints
 abbrev pub blocks_of : Ring → List Print → List (List Print)
@@ -43,10 +43,10 @@ blocks_of ring prints = windows BLOCK_SIZE ring.hop prints
 
 -- A print adds to the blocks of the segment the ring's prints where it completes a block, and else nothing.
 abbrev pub AddsBlock : Ring → Print → Ring → Type 0
-AddsBlock old print new = (prints : List Print) → HasTaken old prints
+AddsBlock old print new = (prints : List Print) → HasLastPrints old prints
     → blocks_of new (prints ++ print ∷ []) ≡ blocks_of old prints ++ (if completes_block new then new.last ∷ [] else [])
 
 -- A block that a print completes begins as many hops from the first print as there were blocks before it.
 abbrev pub PlacesBlock : Ring → Print → Ring → Type 0
-PlacesBlock old print new = (prints : List Print) → HasTaken old prints → IsTrue (completes_block new)
+PlacesBlock old print new = (prints : List Print) → HasLastPrints old prints → IsTrue (completes_block new)
     → first_word new ≡ new.hop * length (blocks_of old prints)

@@ -9,12 +9,12 @@ pub record Room : Type 0 where
   pub room : ℕ
 
 -- by id, then by start, then by errors
-abbrev pub comes_before : Match → Match → Bool
-comes_before a b = nat_lt a.id b.id || (a.id == b.id) && (nat_lt a.start b.start || (a.start == b.start) && nat_lt a.errors b.errors)
+abbrev pub is_before : Match → Match → Bool
+is_before a b = nat_lt a.id b.id || (a.id == b.id) && (nat_lt a.start b.start || (a.start == b.start) && nat_lt a.errors b.errors)
 
 -- no match comes before the one that stands in front of it
-abbrev pub IsInOrder : List Match → Type 0
-IsInOrder matches = IsSortedBy comes_before matches
+abbrev pub AreSorted : List Match → Type 0
+AreSorted matches = IsSortedBy is_before matches
 
 abbrev pub with_match : Room → Match → Room
 with_match room found = record room { matches = room.matches ++ found ∷ [] }

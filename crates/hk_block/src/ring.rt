@@ -1,6 +1,6 @@
 // The prints of the present segment, of which the last 256 are kept.
 ghost use Rattle.std.specs.Prelude.{◌≡◌, ◌≤◌, ◌<◌, ◌+◌, [], IfOk, IsTrue, slice_get, Some};
-ghost use Rattle.hk_block.specs.Ring.{HasTaken, Takes, AddsBlock, PlacesBlock, MOST_PRINTS, is_full, first_word, completes_block};
+ghost use Rattle.hk_block.specs.Ring.{HasLastPrints, Takes, AddsBlock, PlacesBlock, MOST_PRINTS, is_full, first_word, completes_block};
 
 use circular_buffer::HeapCircularBuffer;
 use hk_base::{NoMemory, Print};
@@ -33,7 +33,7 @@ impl BlockRing {
     pub fn new(alloc: Global, hop: u32) -> Result<BlockRing, NoMemory>
         requires some { 1 ≤ hop }
         requires most { hop ≤ 256 }
-        ensures empty { IfOk result (λ ring. HasTaken ring []) }
+        ensures empty { IfOk result (λ ring. HasLastPrints ring []) }
         ensures hop { IfOk result (λ ring. ring.hop ≡ hop) }
     {
         match HeapCircularBuffer::with_capacity(alloc, BLOCK_SIZE) {
@@ -103,7 +103,7 @@ impl BlockRing {
 
     /// Begins a new segment: no print was taken. The hop stays.
     pub fn reset(&mut self)
-        ensures empty { HasTaken self.new [] }
+        ensures empty { HasLastPrints self.new [] }
         ensures hop { self.new.hop ≡ self.old.hop }
     {
         self.last.clear();

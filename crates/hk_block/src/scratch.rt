@@ -1,7 +1,7 @@
 // Room for the matches of a look.
 ghost use Rattle.std.specs.Prelude.{◌≡◌, ◌<◌, [], length, IfOk};
 ghost use Rattle.std.specs.List.Sorted.{IsPermutation};
-ghost use Rattle.hk_block.specs.Room.{IsInOrder, with_match};
+ghost use Rattle.hk_block.specs.Room.{AreSorted, with_match};
 
 use hk_base::{Match, NoMemory};
 use std::alloc::Global;
@@ -66,7 +66,7 @@ impl Scratch {
     /// Sorts by id, then by start, then by errors.
     pub fn order(&mut self)
         ensures same { IsPermutation self.old.matches self.new.matches }
-        ensures ordered { IsInOrder self.new.matches }
+        ensures ordered { AreSorted self.new.matches }
         ensures room { self.new.room ≡ self.old.room }
     {
         self.matches.as_mut_slice().sort_unstable();

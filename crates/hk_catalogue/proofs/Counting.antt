@@ -6,7 +6,7 @@ use Rattle.std.proofs.lemmas.List.{length-map, get_or-map}
 use Rattle.std.proofs.lemmas.List.Sums.{sum_by-insert, sum_by-remove}
 use Rattle.hk_spec_matching.specs.Catalogue.{Song}
 use Rattle.hk_spec_matching.specs.Cost as cost
-use Rattle.hk_table.specs.Store.{Store, Track, song_at, with_song_at, without_song_at}
+use Rattle.hk_table.specs.Store.{Store, SongWithId, song_at, with_song_at, without_song_at}
 use Rattle.hk_table.specs.Index.{Index, words_in, all_words, slot_at, index_of}
 use Rattle.hk_table.proofs.Counting.{count_by-flat_map, count-set}
 use Rattle.hk_table.proofs.Indexed.{slot-indexed, index-put, index-clear}
@@ -14,7 +14,7 @@ use Rattle.hk_catalogue.specs.Shelves.{song_of, songs_in, words_at}
 use Rattle.hk_catalogue.specs.CatalogueInside.{AreCounted}
 use Rattle.hk_catalogue.proofs.Shelving.{entry_in, length-songs}
 
-words_of : (slot : Option Track) → words_in (option_map (λ (song : Track). song.words) slot) ≡ option_map_or (λ (song : Track). song.words) slot []
+words_of : (slot : Option SongWithId) → words_in (option_map (λ (song : SongWithId). song.words) slot) ≡ option_map_or (λ (song : SongWithId). song.words) slot []
 words_of None = refl
 words_of (Some song) = refl
 
@@ -23,13 +23,13 @@ slot_words : (store : Store) (slot : ℕ) → words_in (slot_at (index_of store)
 slot_words store slot = ap words_in (slot-indexed store slot) ∙ words_of (song_at store slot)
 
 slot_there : (store : Store) (slot : ℕ) → slot < length store.slots → slot < length (index_of store).slots
-slot_there store slot low = omega (arith, low, length-map store.slots (option_map (λ (song : Track). song.words)))
+slot_there store slot low = omega (arith, low, length-map store.slots (option_map (λ (song : SongWithId). song.words)))
 
-pub counted-insert : (old new : Store) (slot place : ℕ) (track : Track) (index more : List (ℕ × ℕ)) → new ≡ with_song_at old slot track → slot < length old.slots
+pub counted-insert : (old new : Store) (slot place : ℕ) (track : SongWithId) (index more : List (ℕ × ℕ)) → new ≡ with_song_at old slot track → slot < length old.slots
     → song_at old slot ≡ None → songs_in new more ≡ insert (songs_in old index) place (track.id, song_of track.words) → AreCounted old index → AreCounted new more
 counted-insert old new slot place track index more put low empty grown counted p =
     let words : (ℕ × Song) → List ℕ = λ e. e.1.words in
-    let none : count_by p (words_in (slot_at (index_of old) slot)) ≡ 0 = ap (count_by p) (slot_words old slot ∙ ap (λ t. option_map_or (λ (song : Track). song.words) t []) empty) in
+    let none : count_by p (words_in (slot_at (index_of old) slot)) ≡ 0 = ap (count_by p) (slot_words old slot ∙ ap (λ t. option_map_or (λ (song : SongWithId). song.words) t []) empty) in
     let slots : count_by p (all_words (index_of new).slots) ≡ count_by p (all_words (set (index_of old).slots slot (Some track.words))) =
     ap (λ (x : Index). count_by p (all_words x.slots)) (ap index_of put ∙ index-put old slot track) in
     omega (

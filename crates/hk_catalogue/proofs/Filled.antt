@@ -5,7 +5,7 @@ use Rattle.std.specs.Option.{option_map_or, IfSome}
 use Rattle.std.proofs.lemmas.Bool.{cases_lt, cases_eq}
 use Rattle.std.proofs.lemmas.List.{get_or_default, get_or-map}
 use Rattle.std.proofs.lemmas.List.Edits.{length-insert, get_or-insert_below, get_or-insert_at, get_or-insert_above, length-remove, get_or-remove_below, get_or-remove_above}
-use Rattle.hk_table.specs.Store.{Store, Track, song_at}
+use Rattle.hk_table.specs.Store.{Store, SongWithId, song_at}
 use Rattle.hk_catalogue.specs.Shelves.{songs_in, song_of, entry_of}
 use Rattle.hk_catalogue.specs.CatalogueInside.{IsFilled}
 use Rattle.hk_catalogue.proofs.Shelving.{SameBut, entry_in, some_not_none, length-songs}
@@ -32,12 +32,12 @@ Contains-remove xs i x y within here other (k, low, is) = elim (cases_lt k i) [
   ]
 ]
 
-pub filled-insert : (old new : Store) (slot place : ℕ) (track : Track) (index : List (ℕ × ℕ)) → SameBut slot old new → song_at new slot ≡ Some track
+pub filled-insert : (old new : Store) (slot place : ℕ) (track : SongWithId) (index : List (ℕ × ℕ)) → SameBut slot old new → song_at new slot ≡ Some track
     → place ≤ length index → IsFilled old index → IsFilled new (insert index place (track.id, slot))
 filled-insert old new slot place track index same put within filled s t is = elim (cases_eq s slot) [
   | inl at ↦
       let one : track ≡ t = let both : Some track ≡ Some t = sym put ∙ ap (song_at new) (sym at) ∙ is in cc in
-      let pair : (track.id, slot) ≡ (t.id, s) = λ i. (ap (λ (x : Track). x.id) one i, sym at i) in
+      let pair : (track.id, slot) ≡ (t.id, s) = λ i. (ap (λ (x : SongWithId). x.id) one i, sym at i) in
       subst (Contains (insert index place (track.id, slot))) pair (Contains-inserted index place (track.id, slot) within)
   | inr off ↦ Contains-insert index place (track.id, slot) (t.id, s) within (filled s t (sym (same s off) ∙ is))
 ]
@@ -50,7 +50,7 @@ filled-remove old new place gone index same cleared within here filled s t is = 
 ]
 
 -- a song in a slot is one of the map's
-pub song_known : (store : Store) (index : List (ℕ × ℕ)) (slot : ℕ) (found : Option Track) → IsFilled store index → found ≡ song_at store slot
+pub song_known : (store : Store) (index : List (ℕ × ℕ)) (slot : ℕ) (found : Option SongWithId) → IsFilled store index → found ≡ song_at store slot
     → IfSome found (λ track. Contains (songs_in store index) (entry_of track))
 song_known store index slot None filled is = tt
 song_known store index slot (Some track) filled is =

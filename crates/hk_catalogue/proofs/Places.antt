@@ -12,8 +12,8 @@ use Rattle.std.proofs.lemmas.Bool.{ltb-true, ltb-false, eqb-false, ne_eqb, or_pa
 use Rattle.std.proofs.lemmas.List.{map-append, take-map, drop-map, length-map}
 use Rattle.std.proofs.Math.ListN.{get_or-map}
 use Rattle.std.proofs.lemmas.List.Sums.{sum_by-append, sum_by-take-drop, sum_by-drop_more}
-use Rattle.hk_catalogue.specs.Refusals.{Lengths, has_id, words_in}
-use Rattle.hk_catalogue.specs.Entries.{pairs_of, AreAbove, AreRising, Splits}
+use Rattle.hk_catalogue.specs.Refusals.{SongLengths, has_id, words_in}
+use Rattle.hk_catalogue.specs.Entries.{entry_pairs, AreAbove, AreRising, Splits}
 use Rattle.hk_catalogue.specs.declared.entry.Entry.{Entry}
 
 pub map-insert : {X Y : Type 0} (f : X → Y) (xs : List X) (i : ℕ) (x : X) → map f (insert xs i x) ≡ insert (map f xs) i (f x)
@@ -28,12 +28,12 @@ map-remove f xs i =
     ∙ ap (λ front. front ++ map f (drop (suc i) xs)) (sym (take-map f i xs))
     ∙ ap (λ back. take i (map f xs) ++ back) (sym (drop-map f (suc i) xs))
 
-above-at : (id : ℕ) (entries : List Entry) (j : ℕ) (d : Entry) → AreAbove id (pairs_of entries) → j < length entries → id < (get_or entries j d).id
+above-at : (id : ℕ) (entries : List Entry) (j : ℕ) (d : Entry) → AreAbove id (entry_pairs entries) → j < length entries → id < (get_or entries j d).id
 above-at id [] j d above low = absurd (omega arith)
 above-at id (e ∷ es) zero d above low = above.0
 above-at id (e ∷ es) (suc j) d above low = above-at id es j d above.1 (omega arith)
 
-pub non_decreasing : (entries : List Entry) → AreRising (pairs_of entries) → IsNonDecreasingBy (λ entry. entry.id) entries
+pub non_decreasing : (entries : List Entry) → AreRising (entry_pairs entries) → IsNonDecreasingBy (λ entry. entry.id) entries
 non_decreasing [] rising i j d upto low = absurd (omega arith)
 non_decreasing (e ∷ es) rising zero zero d upto low = omega arith
 non_decreasing (e ∷ es) rising zero (suc j) d upto low = let h = above-at e.id es j d rising.0 (omega arith) in omega arith
@@ -41,7 +41,7 @@ non_decreasing (e ∷ es) rising (suc i) zero d upto low = absurd (omega arith)
 non_decreasing (e ∷ es) rising (suc i) (suc j) d upto low = non_decreasing es rising.1 i j d (omega arith) (omega arith)
 
 pub splits : (entries : List Entry) (id place : ℕ) → IsPartitionPoint (λ entry. nat_lt entry.id id ≡ true) (λ entry. nat_lt entry.id id ≡ false) entries place
-    → place ≤ length entries → Splits (pairs_of entries) id place
+    → place ≤ length entries → Splits (entry_pairs entries) id place
 splits [] id place point within = omega arith
 splits (e ∷ es) id zero point within = ltb-false e.id id (point.1 0 e (omega arith) (omega arith))
 splits (e ∷ es) id (suc place) point within = (
@@ -56,21 +56,21 @@ absent low id (e ∷ es) above upto =
     ap (λ b. b || has_id es id) (ne_eqb e.0 id (λ same. let no : ⊥ = omega (arith, above.0) in no)) ∙ absent low id es above.1 upto
 
 -- the entry at the place has the id, or none has
-pub has-here : (entries : List Entry) (id place : ℕ) (entry : Entry) → Splits (pairs_of entries) id place → AreRising (pairs_of entries)
-    → place < length entries → entry ≡ get_or entries place entry → (entry.id == id) ≡ has_id (pairs_of entries) id
+pub has-here : (entries : List Entry) (id place : ℕ) (entry : Entry) → Splits (entry_pairs entries) id place → AreRising (entry_pairs entries)
+    → place < length entries → entry ≡ get_or entries place entry → (entry.id == id) ≡ has_id (entry_pairs entries) id
 has-here [] id place entry here rising within is = absurd (omega arith)
 has-here (e ∷ es) id zero entry here rising within is =
-    ap (λ f. f.id == id) is ∙ sym (ap (λ b. (e.id == id) || b) (absent e.id id (pairs_of es) rising.0 here) ∙ or-false (e.id == id))
+    ap (λ f. f.id == id) is ∙ sym (ap (λ b. (e.id == id) || b) (absent e.id id (entry_pairs es) rising.0 here) ∙ or-false (e.id == id))
 has-here (e ∷ es) id (suc place) entry here rising within is =
     has-here es id place entry here.1 rising.1 (omega arith) is
-    ∙ sym (ap (λ b. b || has_id (pairs_of es) id) (ne_eqb e.id id (λ same. let no : ⊥ = omega (arith, here.0) in no)))
+    ∙ sym (ap (λ b. b || has_id (entry_pairs es) id) (ne_eqb e.id id (λ same. let no : ⊥ = omega (arith, here.0) in no)))
 
-pub has-none : (entries : List Entry) (id place : ℕ) → Splits (pairs_of entries) id place → length entries ≤ place → false ≡ has_id (pairs_of entries) id
+pub has-none : (entries : List Entry) (id place : ℕ) → Splits (entry_pairs entries) id place → length entries ≤ place → false ≡ has_id (entry_pairs entries) id
 has-none [] id place here behind = refl
 has-none (e ∷ es) id zero here behind = absurd (omega arith)
 has-none (e ∷ es) id (suc place) here behind =
     has-none es id place here.1 (omega arith)
-    ∙ sym (ap (λ b. b || has_id (pairs_of es) id) (ne_eqb e.id id (λ same. let no : ⊥ = omega (arith, here.0) in no)))
+    ∙ sym (ap (λ b. b || has_id (entry_pairs es) id) (ne_eqb e.id id (λ same. let no : ⊥ = omega (arith, here.0) in no)))
 
 -- a new id at its place
 pub put-at : {A : Type 0} (es : List (ℕ × A)) (id : ℕ) (n : A) (place : ℕ) → Splits es id place → has_id es id ≡ false → insert es place (id, n) ≡ put nat_cmp id n es
@@ -148,14 +148,14 @@ rising-remove (e ∷ es) (suc place) rising = (above-remove e.0 es place rising.
 
 -- the words of one entry and of the others
 pub words-gone : (entries : List Entry) (place : ℕ) (entry : Entry) → place < length entries → entry ≡ get_or entries place entry
-    → words_in (pairs_of entries) ≡ entry.number + words_in (pairs_of (remove entries place))
+    → words_in (entry_pairs entries) ≡ entry.number + words_in (entry_pairs (remove entries place))
 words-gone entries place entry low is =
     let pair : Entry → ℕ × ℕ = λ e. (e.id, e.number) in
     let words : ℕ × ℕ → ℕ = λ e. e.1 in
-    let es : Lengths = pairs_of entries in
+    let es : SongLengths = entry_pairs entries in
     let count : length es ≡ length entries = length-map {B = ℕ × ℕ} entries pair in
     let here : words (get_or es place (pair entry)) ≡ entry.number = ap words (get_or-map pair entries place entry) ∙ ap (λ e. e.number) (sym is) in
     let next : words_in (drop (place + 1) es) ≡ words_in (drop (suc place) es) = ap (λ n. words_in (drop n es)) (add-one place) in
     let parts : words_in (remove es place) ≡ words_in (take place es) + words_in (drop (suc place) es) = sum_by-append words (take place es) (drop (suc place) es) in
-    let all : words_in (pairs_of (remove entries place)) ≡ words_in (remove es place) = ap words_in (map-remove pair entries place) in
+    let all : words_in (entry_pairs (remove entries place)) ≡ words_in (remove es place) = ap words_in (map-remove pair entries place) in
     omega (arith, sum_by-take-drop words es place, sum_by-drop_more words es place (pair entry) (omega arith))

@@ -13,7 +13,7 @@ use Rattle.hk_spec_streams.specs.Pieces.{first_that_holds}
 use Rattle.hk_spec_matching.specs.Catalogue.{Song, Songs, Limits, has_song, with_song, without_song, positions_of, has_room}
 use Rattle.hk_spec_settings.specs.Refusals.{add_refusals}
 use Rattle.hk_spec_settings.specs.Settings.{Rules}
-use Rattle.hk_catalogue.specs.Refusals.{Lengths, lengths_of, has_id, words_in, free, add_tests, answered, reason_of}
+use Rattle.hk_catalogue.specs.Refusals.{SongLengths, lengths_of, has_id, words_in, free, add_tests, answered, reason_of}
 use Rattle.hk_catalogue.specs.Register.{Register, refusal, noted, songs_after, Counts, AreRulesOf}
 use Rattle.hk_catalogue.specs.declared.refused.Refused.{Refused}
 use Rattle.hk_catalogue.specs.declared.refused.Refused.TheVariants as refused
@@ -52,7 +52,7 @@ without-counted (e ∷ songs) id =
     ]
 
 -- what is known of a song that may be added
-pub record IsAllowed (limits : Limits) (lengths : Lengths) (id words : ℕ) : Type 0 where
+pub record IsAllowed (limits : Limits) (lengths : SongLengths) (id words : ℕ) : Type 0 where
   pub absent : has_id lengths id ≡ false
   pub long : 256 ≤ words
   pub song_left : length lengths < limits.songs
@@ -65,7 +65,7 @@ four false false true d w x y z none = absurd (cc)
 four false false false true w x y z none = absurd (cc)
 four false false false false w x y z none = (refl, refl, refl, refl)
 
-pub allowed : (limits : Limits) (lengths : Lengths) (id words : ℕ) → first_that_holds (add_tests limits lengths id words) ≡ None → IsAllowed limits lengths id words
+pub allowed : (limits : Limits) (lengths : SongLengths) (id words : ℕ) → first_that_holds (add_tests limits lengths id words) ≡ None → IsAllowed limits lengths id words
 allowed limits lengths id words none =
     let tests = four (has_id lengths id) (nat_lt words 256) (nat_le limits.songs (length lengths)) (nat_lt (free limits lengths) words) _ _ _ _ none in
     let long : 256 ≤ words = ltb-false words 256 tests.1 in

@@ -8,7 +8,7 @@ use Rattle.std.proofs.lemmas.List.{length-map, get_or-map}
 use Rattle.std.proofs.lemmas.List.Elements.{All-append, All-take, All-drop, All-cons, filter_passes}
 use Rattle.std.proofs.lemmas.List.Sums.{sum_by-insert, sum_by-remove}
 use Rattle.hk_spec_matching.specs.Catalogue.{Song, Songs, has_song, with_song, without_song, positions_of}
-use Rattle.hk_table.specs.Store.{Store, Track, song_at, size_at, size_of}
+use Rattle.hk_table.specs.Store.{Store, SongWithId, song_at, size_at, size_of}
 use Rattle.hk_catalogue.specs.Refusals.{has_id}
 use Rattle.hk_catalogue.specs.Entries.{AreAbove, AreRising, Splits}
 use Rattle.hk_catalogue.specs.Shelves.{words_at, song_of, songs_in}
@@ -62,25 +62,25 @@ some_not_none a is = cc
 
 pub off_empty : (store : Store) (slot : ℕ) (e : ℕ × ℕ) → song_at store slot ≡ None → IsHeld store e → e.1 ≢ slot
 off_empty store slot e empty held = λ at.
-    some_not_none e.0 (sym (ap (option_map (λ (t : Track). t.id)) (ap (song_at store) at ∙ empty)) ∙ held)
+    some_not_none e.0 (sym (ap (option_map (λ (t : SongWithId). t.id)) (ap (song_at store) at ∙ empty)) ∙ held)
 
 pub off_other : (store : Store) (e f : ℕ × ℕ) → IsHeld store f → IsHeld store e → e.0 ≢ f.0 → e.1 ≢ f.1
 off_other store e f held_f held_e other = λ at.
-    other (let same : Some e.0 ≡ Some f.0 = sym held_e ∙ ap (λ s. option_map (λ (t : Track). t.id) (song_at store s)) at ∙ held_f in cc)
+    other (let same : Some e.0 ≡ Some f.0 = sym held_e ∙ ap (λ s. option_map (λ (t : SongWithId). t.id) (song_at store s)) at ∙ held_f in cc)
 
 pub held_stays : (old new : Store) (slot : ℕ) (index : List (ℕ × ℕ)) → SameBut slot old new → All (λ e. e.1 ≢ slot) index → All (IsHeld old) index → All (IsHeld new) index
 held_stays old new slot index same others held k d low =
-    ap (option_map (λ (t : Track). t.id)) (same (get_or index k d).1 (others k d low)) ∙ held k d low
+    ap (option_map (λ (t : SongWithId). t.id)) (same (get_or index k d).1 (others k d low)) ∙ held k d low
 
 -- a song more, at its place
-pub songs-insert : (old new : Store) (slot place : ℕ) (track : Track) (index : List (ℕ × ℕ)) → SameBut slot old new → song_at new slot ≡ Some track
+pub songs-insert : (old new : Store) (slot place : ℕ) (track : SongWithId) (index : List (ℕ × ℕ)) → SameBut slot old new → song_at new slot ≡ Some track
     → All (λ e. e.1 ≢ slot) index → songs_in new (insert index place (track.id, slot)) ≡ insert (songs_in old index) place (track.id, song_of track.words)
 songs-insert old new slot place track index same is others =
     map-insert (entry_in new) index place (track.id, slot)
     ∙ ap (λ t. insert (songs_in new index) place (track.id, song_of (option_map_or (λ t. t.words) t []))) is
     ∙ ap (λ songs. insert songs place (track.id, song_of track.words)) (songs_stay old new slot index same others)
 
-pub songs-with : (old : Store) (place : ℕ) (track : Track) (index : List (ℕ × ℕ)) → Splits index track.id place → has_id index track.id ≡ false
+pub songs-with : (old : Store) (place : ℕ) (track : SongWithId) (index : List (ℕ × ℕ)) → Splits index track.id place → has_id index track.id ≡ false
     → insert (songs_in old index) place (track.id, song_of track.words) ≡ with_song (songs_in old index) track.id (song_of track.words)
 songs-with old place track index here new =
     put-at (songs_in old index) track.id (song_of track.words) place (splits-songs old index track.id place here) (has-songs old index track.id ∙ new)
@@ -107,12 +107,12 @@ other_ids id place index here rising there =
     subst (All (λ (e : ℕ × ℕ). e.0 ≢ id)) (sym (gone-at index id place here rising there))
     (λ k d low. passes_other _ id (filter_passes (λ (e : ℕ × ℕ). not (e.0 == id)) index k d low))
 
-size_words : (slot : Option Track) → length (option_map_or (λ t. t.words) slot []) ≡ size_of slot
+size_words : (slot : Option SongWithId) → length (option_map_or (λ t. t.words) slot []) ≡ size_of slot
 size_words None = refl
 size_words (Some track) = refl
 
 -- how many words there are, with a song more and with a song less
-pub positions-insert : (songs : Songs) (place : ℕ) (track : Track) → positions_of (insert songs place (track.id, song_of track.words)) ≡ positions_of songs + length track.words
+pub positions-insert : (songs : Songs) (place : ℕ) (track : SongWithId) → positions_of (insert songs place (track.id, song_of track.words)) ≡ positions_of songs + length track.words
 positions-insert songs place track = sum_by-insert (λ (e : ℕ × Song). length e.1.words) songs place (track.id, song_of track.words)
 
 pub positions-remove : (store : Store) (place : ℕ) (index : List (ℕ × ℕ)) (e : ℕ × ℕ) → place < length index → get_or index place e ≡ e
@@ -122,7 +122,7 @@ positions-remove store place index e low is =
     let here : get_or (songs_in store index) place (entry_in store e) ≡ entry_in store e = get_or-map (entry_in store) index place e (entry_in store e) low ∙ ap (entry_in store) is in
     omega (arith, sum_by-remove words (songs_in store index) place (entry_in store e) (omega (arith, low, length-songs store index)), ap words here, size_words (song_at store e.1))
 
-some_from : (slot : Option Track) (id : ℕ) → option_map (λ (t : Track). t.id) slot ≡ Some id → IsSome slot
+some_from : (slot : Option SongWithId) (id : ℕ) → option_map (λ (t : SongWithId). t.id) slot ≡ Some id → IsSome slot
 some_from None id is = absurd (cc)
 some_from (Some track) id is = refl
 

@@ -3,18 +3,18 @@ use Rattle.std.specs.Prelude.{◌≡◌, ◌≢◌, ℕ, Bool, count_by, ◌+◌
 use Rattle.std.specs.List.{All, Contains}
 use Rattle.hk_spec_matching.specs.Catalogue.{positions_of}
 use Rattle.hk_spec_matching.specs.Cost as cost
-use Rattle.hk_table.specs.Store.{Store, Track, song_at, spare}
+use Rattle.hk_table.specs.Store.{Store, SongWithId, song_at, spare}
 use Rattle.hk_table.specs.Index.{all_words, index_of}
-use Rattle.hk_catalogue.specs.Entries.{pairs_of, AreRising}
+use Rattle.hk_catalogue.specs.Entries.{entry_pairs, AreRising}
 use Rattle.hk_catalogue.specs.Shelves.{Shelves, songs_in}
 use Rattle.hk_catalogue.specs.declared.catalogue.Catalogue.TheInside.{Inside}
 
 abbrev pub as_shelves : Inside → Shelves
-as_shelves c = record { store = c.store; index = pairs_of c.index.items; version = c.version }
+as_shelves c = record { store = c.store; index = entry_pairs c.index.items; version = c.version }
 
 -- the entry's slot has a song with its id
 abbrev pub IsHeld : Store → ℕ × ℕ → Type 0
-IsHeld store entry = option_map (λ track. track.id) (song_at store entry.1) ≡ Some entry.0
+IsHeld store entry = option_map (λ song. song.id) (song_at store entry.1) ≡ Some entry.0
 
 pub record IsFree (store : Store) (slot : ℕ) : Type 0 where
   pub there : slot < length store.slots
@@ -22,7 +22,7 @@ pub record IsFree (store : Store) (slot : ℕ) : Type 0 where
 
 -- each song in a slot has its entry
 abbrev pub IsFilled : Store → List (ℕ × ℕ) → Type 0
-IsFilled store index = (slot : ℕ) (track : Track) → song_at store slot ≡ Some track → Contains index (track.id, slot)
+IsFilled store index = (slot : ℕ) (song : SongWithId) → song_at store slot ≡ Some song → Contains index (song.id, slot)
 
 -- Ids rise, each has its song in a slot of its own, and no other slot has a song.
 pub record IsShelved (shelves : Shelves) : Type 0 where
@@ -41,14 +41,14 @@ AreCounted store index = (p : ℕ → Bool) → count_by p (all_words (index_of 
 -- Ids rise, each has its song in a slot of its own, no other slot has a song, and the free slots are listed once.
 -- The table has the words of the store.
 pub record IsKept (c : Inside) : Type 0 where
-  pub rising : AreRising (pairs_of c.index.items)
-  pub held : All (IsHeld c.store) (pairs_of c.index.items)
-  pub filled : IsFilled c.store (pairs_of c.index.items)
+  pub rising : AreRising (entry_pairs c.index.items)
+  pub held : All (IsHeld c.store) (entry_pairs c.index.items)
+  pub filled : IsFilled c.store (entry_pairs c.index.items)
   pub free : All (IsFree c.store) c.free.items
   pub distinct : AreDistinct c.free.items
   pub all_slots : vec_len c.index + vec_len c.free ≡ length c.store.slots
-  pub all_words : positions_of (songs_in c.store (pairs_of c.index.items)) + spare c.store ≡ c.store.positions
-  pub counted : AreCounted c.store (pairs_of c.index.items)
+  pub all_words : positions_of (songs_in c.store (entry_pairs c.index.items)) + spare c.store ≡ c.store.positions
+  pub counted : AreCounted c.store (entry_pairs c.index.items)
   pub indexed : c.table ≡ index_of c.store
   pub short : length c.store.slots < 2 ^ 32
   pub room_index : length c.store.slots ≤ vec_capacity c.index

@@ -2,8 +2,8 @@
 use Rattle.std.specs.Prelude.{◌≡◌, ℕ, zero, suc, ◌<◌, ◌≤◌, List, [], ◌∷◌, map, ⊤}
 use Rattle.hk_catalogue.specs.declared.entry.Entry.{Entry}
 
-abbrev pub pairs_of : List Entry → List (ℕ × ℕ)
-pairs_of entries = map (λ entry. (entry.id, entry.number)) entries
+abbrev pub entry_pairs : List Entry → List (ℕ × ℕ)
+entry_pairs entries = map (λ entry. (entry.id, entry.number)) entries
 
 -- every id is above this one
 abbrev pub AreAbove : {A : Type 0} → ℕ → List (ℕ × A) → Type 0

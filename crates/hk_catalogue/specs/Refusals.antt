@@ -1,43 +1,57 @@
 -- Why an edit is refused, by the ids and lengths of the songs that are there.
-use Rattle.std.specs.Prelude.{ℕ, ◌-◌, ◌==◌, Bool, not, nat_lt, nat_le, List, [], ◌∷◌, map, length, sum_by, Option, Some, None, Result, Ok, Err}
+use Rattle.std.specs.Prelude.{ℕ, ◌-◌, ◌==◌, Bool, List, map, length, sum_by, Option, Some, None, Result, Ok, Err}
 use Rattle.std.specs.List.{list_any}
 use Rattle.hk_base.specs.declared.plain.Reason as reasons
 use Rattle.hk_base.specs.declared.plain.Reason.TheVariants as reason
 use Rattle.hk_spec_matching.specs.Catalogue.{Songs, Limits}
+use Rattle.hk_spec_settings.specs.Refusals as rules
+use Rattle.hk_spec_settings.specs.Refusals.{Stock, Objections}
 use Rattle.hk_catalogue.specs.declared.refused.Refused.{Refused}
 use Rattle.hk_catalogue.specs.declared.refused.Refused.TheVariants.{Duplicate, Short, Unknown, SongsFull, PositionsFull, VersionsFull}
 
 -- ids with numbers of words, by rising id
-abbrev pub Lengths : Type 0
-Lengths = List (ℕ × ℕ)
+abbrev pub SongLengths : Type 0
+SongLengths = List (ℕ × ℕ)
 
-abbrev pub lengths_of : Songs → Lengths
+abbrev pub lengths_of : Songs → SongLengths
 lengths_of songs = map (λ entry. (entry.0, length entry.1.words)) songs
 
 abbrev pub has_id : {A : Type 0} → List (ℕ × A) → ℕ → Bool
 has_id entries id = list_any (λ entry. entry.0 == id) entries
 
-abbrev pub words_in : Lengths → ℕ
+abbrev pub words_in : SongLengths → ℕ
 words_in lengths = sum_by (λ entry. entry.1) lengths
 
 -- how many further words there may be
-abbrev pub free : Limits → Lengths → ℕ
+abbrev pub free : Limits → SongLengths → ℕ
 free limits lengths = limits.positions - words_in lengths
 
--- The tests of each kind of edit in their order, with their numbers.
-abbrev pub add_tests : Limits → Lengths → ℕ → ℕ → List (Bool × Refused)
-add_tests limits lengths id words =
-    (has_id lengths id, Duplicate id)
-    ∷ (nat_lt words 256, Short words)
-    ∷ (nat_le limits.songs (length lengths), SongsFull limits.songs)
-    ∷ (nat_lt (free limits lengths) words, PositionsFull (free limits lengths) words)
-    ∷ []
+-- how many words a song has at least
+abbrev pub SHORTEST_SONG : ℕ
+SHORTEST_SONG = 256
 
-abbrev pub withdraw_tests : Lengths → ℕ → List (Bool × Refused)
-withdraw_tests lengths id = (not (has_id lengths id), Unknown id) ∷ []
+-- what a song with this id finds
+abbrev pub stock_in : SongLengths → ℕ → Stock
+stock_in lengths id = record { taken = has_id lengths id; songs = length lengths; words = words_in lengths }
+
+-- what is said against a song of so many words, with the numbers of each refusal
+abbrev pub objections : Limits → SongLengths → ℕ → ℕ → Objections Refused
+objections limits lengths id words = record {
+  duplicate = Duplicate id;
+  short = Short words;
+  songs_full = SongsFull limits.songs;
+  positions_full = PositionsFull (free limits lengths) words;
+}
+
+-- The tests of each kind of edit in their order, with their numbers.
+abbrev pub add_tests : Limits → SongLengths → ℕ → ℕ → List (Bool × Refused)
+add_tests limits lengths id words = rules.add_tests limits SHORTEST_SONG (stock_in lengths id) words (objections limits lengths id words)
+
+abbrev pub withdraw_tests : SongLengths → ℕ → List (Bool × Refused)
+withdraw_tests lengths id = rules.withdraw_tests (has_id lengths id) (Unknown id)
 
 abbrev pub seal_tests : Limits → ℕ → List (Bool × Refused)
-seal_tests limits version = (nat_le limits.versions version, VersionsFull limits.versions) ∷ []
+seal_tests limits version = rules.publish_tests limits version (VersionsFull limits.versions)
 
 -- the answer of a check
 abbrev pub answered : Option Refused → Result (Unit {0}) Refused

@@ -6,14 +6,14 @@ use Rattle.hk_spec_streams.specs.Pieces.{first_that_holds}
 use Rattle.hk_spec_matching.specs.Catalogue as edits
 use Rattle.hk_spec_matching.specs.Catalogue.{Songs, Limits, edited}
 use Rattle.hk_spec_settings.specs.Settings.{Rules}
-use Rattle.hk_catalogue.specs.Refusals.{Lengths, lengths_of, add_tests, withdraw_tests, seal_tests}
+use Rattle.hk_catalogue.specs.Refusals.{SongLengths, lengths_of, add_tests, withdraw_tests, seal_tests}
 use Rattle.hk_catalogue.specs.declared.refused.Refused.{Refused}
 use Rattle.hk_catalogue.specs.declared.edit.Edit.{Edit}
 use Rattle.hk_catalogue.specs.declared.edit.Edit.TheVariants.{Add, Withdraw, Seal}
 
 -- ids and lengths of the songs that a publish would give, the limits, and how many versions were published
 pub record Register : Type 0 where
-  pub lengths : Lengths
+  pub lengths : SongLengths
   pub limits : Limits
   pub version : ℕ
 

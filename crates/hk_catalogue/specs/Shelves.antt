@@ -3,7 +3,7 @@ use Rattle.std.specs.Prelude.{◌≡◌, ℕ, ◌+◌, ◌-◌, ◌^◌, ◌<◌
 use Rattle.std.specs.Option.{option_map_or}
 use Rattle.hk_spec_matching.specs.Catalogue.{Song, Songs, Limits}
 use Rattle.hk_spec_matching.specs.Matching.{MOST_ERRORS}
-use Rattle.hk_table.specs.Store.{Store, Track, new_store, song_at}
+use Rattle.hk_table.specs.Store.{Store, SongWithId, new_store, song_at}
 use Rattle.hk_catalogue.specs.declared.edit.Edit.{Edit}
 use Rattle.hk_catalogue.specs.declared.edit.Edit.TheVariants.{Add, Withdraw, Seal}
 
@@ -18,14 +18,14 @@ new_shelves songs positions = record { store = new_store positions songs; index 
 
 -- the words in a slot
 abbrev pub words_at : Store → ℕ → List ℕ
-words_at store slot = option_map_or (λ track. track.words) (song_at store slot) []
+words_at store slot = option_map_or (λ song. song.words) (song_at store slot) []
 
 -- a song of these words, with the errors that are allowed where nothing else is said
 abbrev pub song_of : List ℕ → Song
 song_of words = record { words = words; limit = MOST_ERRORS }
 
-abbrev pub entry_of : Track → ℕ × Song
-entry_of track = (track.id, song_of track.words)
+abbrev pub entry_of : SongWithId → ℕ × Song
+entry_of song = (song.id, song_of song.words)
 
 abbrev pub songs_in : Store → List (ℕ × ℕ) → Songs
 songs_in store index = map (λ entry. (entry.0, song_of (words_at store entry.1))) index
@@ -47,7 +47,7 @@ version_after version Seal = min (version + 1) (2 ^ 32 - 1)
 
 -- the slot has the song with this id
 abbrev pub HasIn : Shelves → ℕ → ℕ → Type 0
-HasIn shelves id slot = option_map (λ track. track.id) (song_at shelves.store slot) ≡ Some id
+HasIn shelves id slot = option_map (λ song. song.id) (song_at shelves.store slot) ≡ Some id
 
 -- the numbers from 0 on
 abbrev pub IsCounting : List ℕ → Type 0

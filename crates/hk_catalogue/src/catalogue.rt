@@ -132,7 +132,7 @@ impl Catalogue {
     /// The song in a slot, and None exactly where the slot is empty or doesn't exist.
     pub fn song(&self, slot: u32) -> Option<Song<'_>>
         ensures song { result ≡ song_at self.now.store slot }
-        ensures known { IfSome result (λ track. Contains (songs_of self.now) (entry_of track)) }
+        ensures known { IfSome result (λ song. Contains (songs_of self.now) (entry_of song)) }
     {
         self.store.song(slot)
     }

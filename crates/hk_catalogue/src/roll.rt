@@ -161,7 +161,8 @@ impl Roll {
         entry::has_id(self.entries.as_slice(), id)
     }
 
-    fn add(&mut self, id: u32, length: u32)
+    /// Notes that a song of so many words is added. Its check passes.
+    pub fn add(&mut self, id: u32, length: u32)
         requires { first_that_holds (add_tests self.old.limits self.old.lengths id length) ≡ None }
         ensures { self.new ≡ record self.old { lengths = put nat_cmp id length self.old.lengths } }
     {
@@ -173,7 +174,8 @@ impl Roll {
         self.words += length;
     }
 
-    fn withdraw(&mut self, id: u32)
+    /// Notes that the song with this id goes. Its check passes.
+    pub fn withdraw(&mut self, id: u32)
         requires { has_id self.old.lengths id ≡ true }
         ensures { self.new ≡ record self.old { lengths = filter (λ entry. not (entry.0 == id)) self.old.lengths } }
     {

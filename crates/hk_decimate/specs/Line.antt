@@ -8,5 +8,5 @@ pub record Line : Type 0 where
   pub window : List ℤ
 
 -- The decimator has taken these samples since its last reset. It keeps those of the mean that has begun.
-abbrev pub HasTaken : Line → List ℤ → Type 0
-HasTaken line samples = line.window ≡ begun (2 * line.factor - 1) line.factor samples
+abbrev pub HasDecimated : Line → List ℤ → Type 0
+HasDecimated line samples = line.window ≡ begun (2 * line.factor - 1) line.factor samples

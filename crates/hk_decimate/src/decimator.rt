@@ -3,7 +3,7 @@ ghost use Rattle.std.specs.Prelude.{◌≡◌, ◌≤◌, ◌++◌, [], ◌∷�
 ghost use Rattle.std.specs.Option.{option_to_list};
 ghost use Rattle.hk_spec_sound.specs.Samples.{decimated};
 ghost use Rattle.hk_spec_sound.specs.Ranges.{IsSample};
-ghost use Rattle.hk_decimate.specs.Line.{HasTaken};
+ghost use Rattle.hk_decimate.specs.Line.{HasDecimated};
 
 use crate::mean::weighted_mean;
 use std::marker::Model;
@@ -35,7 +35,7 @@ impl Decimator {
         requires some { 1 ≤ factor }
         requires few { factor ≤ 8 }
         ensures factor { result.factor ≡ factor }
-        ensures taken { HasTaken result [] }
+        ensures taken { HasDecimated result [] }
     {
         Decimator {
             factor: usize::from(factor),
@@ -51,9 +51,9 @@ impl Decimator {
     pub fn push(&mut self, x: i32) -> Option<i32>
         requires { IsSample x }
         ensures factor { self.new.factor ≡ self.old.factor }
-        ensures taken { (samples : List ℤ) → HasTaken self.old samples → HasTaken self.new (samples ++ x ∷ []) }
+        ensures taken { (samples : List ℤ) → HasDecimated self.old samples → HasDecimated self.new (samples ++ x ∷ []) }
         ensures sample { (samples : List ℤ)
-            → HasTaken self.old samples
+            → HasDecimated self.old samples
             → decimated self.old.factor (samples ++ x ∷ []) ≡ decimated self.old.factor samples ++ option_to_list result }
         ensures range { IfSome result IsSample }
     {
@@ -73,7 +73,7 @@ impl Decimator {
     /// Begins anew: the samples of a mean that is not whole are dropped.
     pub fn reset(&mut self)
         ensures factor { self.new.factor ≡ self.old.factor }
-        ensures taken { HasTaken self.new [] }
+        ensures taken { HasDecimated self.new [] }
     {
         self.len = 0;
     }

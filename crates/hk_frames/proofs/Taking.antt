@@ -5,23 +5,23 @@ use Rattle.circular_buffer.specs.Buffer.{keep_last}
 use Rattle.hk_spec_sound.specs.Windows.{begun}
 use Rattle.hk_spec_sound.proofs.BegunWindows.{windows-whole, windows-begun, begun-nil}
 use Rattle.hk_spec_sound.proofs.LastWindows.{completes-whole, completes-part, begun-last, last-more}
-use Rattle.hk_frames.specs.Recent.{Recent, HasTaken, FRAME_LEN, FRAME_STEP, completes_frame, frames_of}
+use Rattle.hk_frames.specs.Recent.{Recent, HasLastSamples, FRAME_LEN, FRAME_STEP, completes_frame, frames_of}
 
 -- at first nothing was taken
-pub taken_nothing : (recent : Recent) → recent.last ≡ [] → recent.missing ≡ FRAME_LEN → HasTaken recent []
+pub taken_nothing : (recent : Recent) → recent.last ≡ [] → recent.missing ≡ FRAME_LEN → HasLastSamples recent []
 taken_nothing recent empty all = record {
   last = empty ∙ sym (drop-nil (0 - FRAME_LEN));
   missing = omega (arith, ap length (begun-nil {A = ℤ} FRAME_LEN FRAME_STEP), all);
 }
 
 -- the last samples of the ring and the one that comes are the last of all
-still_last : (recent : Recent) (samples : List ℤ) (y : ℤ) → HasTaken recent samples
+still_last : (recent : Recent) (samples : List ℤ) (y : ℤ) → HasLastSamples recent samples
     → keep_last FRAME_LEN (recent.last ++ y ∷ []) ≡ drop (length (samples ++ y ∷ []) - FRAME_LEN) (samples ++ y ∷ [])
 still_last recent samples y has = ap (λ last. keep_last FRAME_LEN (last ++ y ∷ [])) has.last ∙ last-more FRAME_LEN samples y
 
 pub taken_whole : (recent : Recent) (last samples : List ℤ) (y : ℤ) → last ≡ keep_last FRAME_LEN (recent.last ++ y ∷ []) → recent.missing ≡ 1
-    → HasTaken recent samples
-    → HasTaken (record { last = last; missing = FRAME_STEP }) (samples ++ y ∷ [])
+    → HasLastSamples recent samples
+    → HasLastSamples (record { last = last; missing = FRAME_STEP }) (samples ++ y ∷ [])
     × (true ≡ completes_frame (length samples + 1))
     × (frames_of (samples ++ y ∷ []) ≡ frames_of samples ++ last ∷ [])
 taken_whole recent last samples y is one has =
@@ -38,8 +38,8 @@ taken_whole recent last samples y is one has =
     )
 
 pub taken_part : (recent : Recent) (last samples : List ℤ) (y : ℤ) → last ≡ keep_last FRAME_LEN (recent.last ++ y ∷ []) → 1 < recent.missing
-    → HasTaken recent samples
-    → HasTaken (record { last = last; missing = recent.missing - 1 }) (samples ++ y ∷ [])
+    → HasLastSamples recent samples
+    → HasLastSamples (record { last = last; missing = recent.missing - 1 }) (samples ++ y ∷ [])
     × (false ≡ completes_frame (length samples + 1))
     × (frames_of (samples ++ y ∷ []) ≡ frames_of samples)
 taken_part recent last samples y is more has =

@@ -16,7 +16,7 @@ pub record Recent : Type 0 where
   pub missing : ℕ
 
 -- The ring has taken these samples: it has the last 2048 of them, and the next frame lacks what the one that has begun lacks.
-pub record HasTaken (recent : Recent) (samples : List ℤ) : Type 0 where
+pub record HasLastSamples (recent : Recent) (samples : List ℤ) : Type 0 where
   pub last : recent.last ≡ drop (length samples - FRAME_LEN) samples
   pub missing : length (begun FRAME_LEN FRAME_STEP samples) + recent.missing ≡ FRAME_LEN
 

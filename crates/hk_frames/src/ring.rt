@@ -1,10 +1,10 @@
 // The last samples of the present segment.
-ghost use Rattle.std.specs.Prelude.{◌≡◌, ◌<◌, ◌+◌, ◌++◌, [], ◌∷◌, ℤ, List, IfOk, IsTrue, if◌then◌else◌, length, pos, replicate, slice_get, Some};
+ghost use Rattle.std.specs.Prelude.{◌≡◌, ◌<◌, ◌≤◌, ◌+◌, ◌++◌, [], ◌∷◌, ℤ, List, IfOk, IsTrue, false, if◌then◌else◌, length, pos, replicate, slice_get, Some};
 ghost use Rattle.hk_spec_sound.specs.Circle.{quarter};
 ghost use Rattle.hk_spec_sound.specs.Prints.{windowed};
 ghost use Rattle.hk_spec_sound.specs.Ranges.{IsSample};
 ghost use Rattle.hk_spec_sound.specs.Spectrum.{complexes, AreBelow};
-ghost use Rattle.hk_frames.specs.Recent.{HasTaken, completes_frame, frames_of, is_full};
+ghost use Rattle.hk_frames.specs.Recent.{HasLastSamples, completes_frame, frames_of, is_full};
 
 use crate::weight::weighted;
 use circular_buffer::HeapCircularBuffer;
@@ -42,7 +42,7 @@ impl Model for Frames {
 impl Frames {
     /// A ring that has taken no sample. It takes all memory that it needs.
     pub fn new(alloc: Global) -> Result<Frames, NoMemory>
-        ensures taken { IfOk result (λ frames. HasTaken frames []) }
+        ensures taken { IfOk result (λ frames. HasLastSamples frames []) }
     {
         match HeapCircularBuffer::with_capacity(alloc, FRAME_LEN) {
             Ok(last) => Ok(Frames {
@@ -59,12 +59,13 @@ impl Frames {
     #[inline(never)]
     pub fn push(&mut self, y: i32) -> bool
         requires { IsSample y }
-        ensures taken { (samples : List ℤ) → HasTaken self.old samples → HasTaken self.new (samples ++ y ∷ []) }
-        ensures completes { (samples : List ℤ) → HasTaken self.old samples → result ≡ completes_frame (length samples + 1) }
+        ensures taken { (samples : List ℤ) → HasLastSamples self.old samples → HasLastSamples self.new (samples ++ y ∷ []) }
+        ensures completes { (samples : List ℤ) → HasLastSamples self.old samples → result ≡ completes_frame (length samples + 1) }
         ensures frame { (samples : List ℤ)
-            → HasTaken self.old samples
+            → HasLastSamples self.old samples
             → frames_of (samples ++ y ∷ []) ≡ frames_of samples ++ (if result then self.new.last ∷ [] else []) }
         ensures full { IsTrue result → IsTrue (is_full self.new) }
+        ensures waits { 1 < self.old.missing → result ≡ false }
     {
         self.last.push_back(y);
         self.missing -= 1;
@@ -73,6 +74,14 @@ impl Frames {
         }
         self.missing = FRAME_STEP;
         true
+    }
+
+    /// How many samples more complete the next frame, at least one.
+    pub fn missing(&self) -> usize
+        ensures value { result ≡ self.now.missing }
+        ensures some { 1 ≤ result }
+    {
+        self.missing
     }
 
     /// Leaves in `into` the last 2048 samples, each weighted by the window's value at its place and rounded.
@@ -102,7 +111,7 @@ impl Frames {
 
     /// Begins a new segment: no sample was taken.
     pub fn reset(&mut self)
-        ensures taken { HasTaken self.new [] }
+        ensures taken { HasLastSamples self.new [] }
     {
         self.last.clear();
         self.missing = FRAME_LEN;

@@ -7,6 +7,7 @@ use std::test::Fail;
 fn frames_of_pseudo_random_samples(rt: HostRuntime) -> Result<(), Fail> {
     let circle = Circle::new(rt.alloc())?;
     let mut frames = Frames::new(rt.alloc())?;
+    assert_eq!(rt; frames.missing(), 2048);
     let mut frame = [0; 2048];
     let mut state: u64 = 7;
     let mut count: u64 = 0;

@@ -1,4 +1,4 @@
--- The calls after a byte, and the commands that it ends.
+-- The stream after a byte, and the commands that it ends.
 use Rattle.std.proofs.Common.{◌≡◌, ℕ, inl, inr, List, [], ◌∷◌, ◌++◌, refl, ◌∙◌, ap, Option, Some, None, cond}
 use Rattle.std.specs.Prelude.{◌⊎◌, is_some}
 use Rattle.std.specs.Option.{option_map_or}
@@ -15,7 +15,7 @@ use Rattle.hk_spec_settings.specs.Settings.{Rules}
 use Rattle.hk_spec_runs.specs.Replay.{OperatorStream}
 use Rattle.hk_operator_wire.specs.declared.item.OpItem.TheVariants as items
 use Rattle.hk_operator_wire.specs.Items.{last_command}
-use Rattle.hk_operator.specs.Obeying.{calls_after, new_commands, end_in, IsAnswered}
+use Rattle.hk_operator.specs.Obeying.{stream_after, new_commands, end_in, IsAnswered}
 use Rattle.hk_operator.specs.declared.done.Done.{Done}
 use Rattle.hk_operator.specs.declared.done.Done.TheVariants.{More, Reply, Publish as Published, Over}
 
@@ -40,34 +40,34 @@ no_end rules state n c (Over e) Leaves is = absurd is
 no_end rules state n c (Reply r) Leaves is = refl
 no_end rules state n c (Published k) Leaves is = refl
 
-module _ (rules : Rules) (calls : OperatorStream) (b : ℕ) where
+module _ (rules : Rules) (operator_stream : OperatorStream) (b : ℕ) where
   abbrev used_more : List ℕ
-  used_more = calls.used ++ b ∷ []
+  used_more = operator_stream.used ++ b ∷ []
 
   after_by : (end : Option OpEnd) (met : Option WireFault) → OperatorStream
-  after_by end met = cond (is_some end) calls
-      (option_map_or (λ fault. record { used = calls.used; end = Some (op_ends.Wire fault) }) met (record { used = used_more; end = None }))
+  after_by end met = cond (is_some end) operator_stream
+      (option_map_or (λ fault. record { used = operator_stream.used; end = Some (op_ends.Wire fault) }) met (record { used = used_more; end = None }))
 
-  after_is : (end : Option OpEnd) (met : Option WireFault) → calls.end ≡ end → operator_met rules.bytes used_more ≡ met → calls_after rules calls b ≡ after_by end met
+  after_is : (end : Option OpEnd) (met : Option WireFault) → operator_stream.end ≡ end → operator_met rules.bytes used_more ≡ met → stream_after rules operator_stream b ≡ after_by end met
   unfolding after_by
   after_is end met e m = ap (λ x. after_by x (operator_met rules.bytes used_more)) e ∙ ap (after_by end) m
 
-  pub over_stays : (end : OpEnd) → calls.end ≡ Some end → calls_after rules calls b ≡ calls
+  pub over_stays : (end : OpEnd) → operator_stream.end ≡ Some end → stream_after rules operator_stream b ≡ operator_stream
   unfolding after_by
   over_stays end is = after_is (Some end) (operator_met rules.bytes used_more) is refl
 
-  pub fault_ends : (fault : WireFault) → calls.end ≡ None → operator_met rules.bytes used_more ≡ Some fault → calls_after rules calls b ≡ record { used = calls.used; end = Some (op_ends.Wire fault) }
+  pub fault_ends : (fault : WireFault) → operator_stream.end ≡ None → operator_met rules.bytes used_more ≡ Some fault → stream_after rules operator_stream b ≡ record { used = operator_stream.used; end = Some (op_ends.Wire fault) }
   unfolding after_by
   fault_ends fault going met = after_is None (Some fault) going met
 
-  pub byte_used : calls.end ≡ None → operator_met rules.bytes used_more ≡ None → calls_after rules calls b ≡ record { used = used_more; end = None }
+  pub byte_used : operator_stream.end ≡ None → operator_met rules.bytes used_more ≡ None → stream_after rules operator_stream b ≡ record { used = used_more; end = None }
   unfolding after_by
   byte_used going met = after_is None None going met
 
-  pub commands_by : (after : OperatorStream) → calls_after rules calls b ≡ after → new_commands rules calls b ≡ cond (is_some after.end) [] (completed commands used_more)
+  pub commands_by : (after : OperatorStream) → stream_after rules operator_stream b ≡ after → new_commands rules operator_stream b ≡ cond (is_some after.end) [] (completed commands used_more)
   commands_by after is = ap (λ (c : OperatorStream). cond (is_some c.end) [] (completed commands used_more)) is
 
-  pub commands_now : calls.end ≡ None → operator_met rules.bytes used_more ≡ None → new_commands rules calls b ≡ cons_option (whole_command (last_command used_more)) []
+  pub commands_now : operator_stream.end ≡ None → operator_met rules.bytes used_more ≡ None → new_commands rules operator_stream b ≡ cons_option (whole_command (last_command used_more)) []
   commands_now going met =
       commands_by (record { used = used_more; end = None }) (byte_used going met)
-      ∙ completed-more commands calls.used b (cons_option (whole_command (last_command used_more)) []) (commands-append calls.used b)
+      ∙ completed-more commands operator_stream.used b (cons_option (whole_command (last_command used_more)) []) (commands-append operator_stream.used b)

@@ -15,7 +15,7 @@ use Rattle.hk_spec_runs.specs.OperatorState.{OperatorState, UnfinishedSong, pres
 use Rattle.hk_spec_settings.specs.Refusals.{add_refusals}
 use Rattle.hk_spec_settings.specs.Settings.{Rules}
 use Rattle.hk_block.specs.Looker.{ShelfView}
-use Rattle.hk_operator.specs.WordBuffer.{Buffered, Keeps}
+use Rattle.hk_operator.specs.WordBuffer.{Buffered, KeepsWords}
 use Rattle.hk_operator.specs.Draft.{Drafts, DraftsAs}
 use Rattle.hk_operator.specs.declared.draft.Draft.{Draft}
 use Rattle.hk_operator.specs.Sound.{IsFixed, IsAllowedForm, IsRecording, Hears, sound_of}
@@ -29,7 +29,7 @@ use Rattle.hk_operator.proofs.Deciding.{decided_as, add_replied, withdraw_replie
 
 -- what staging a song of these kept words decides
 abbrev pub Adds : ShelfView → ℕ → Buffered → ShelfView → What → Type 0
-Adds view id kept view' what = (rules : Rules) (state : OperatorState) (all : List ℕ) → IsFixed rules → IsOnShelf rules view state → Keeps kept all → kept.room ≡ rules.limits.positions
+Adds view id kept view' what = (rules : Rules) (state : OperatorState) (all : List ℕ) → IsFixed rules → IsOnShelf rules view state → KeepsWords kept all → kept.room ≡ rules.limits.positions
     → IsDecided (first_that_holds (add_refusals rules (present rules state) id (length all))) what (IsOnShelf rules view' state)
     (IsOnShelf rules view' (with_edit rules state (edits.Add id (added_song rules all))))
 

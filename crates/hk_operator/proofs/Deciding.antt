@@ -25,7 +25,7 @@ use Rattle.hk_catalogue.specs.Shelves as shelves
 use Rattle.hk_catalogue.specs.declared.refused.Refused as refusing
 use Rattle.hk_catalogue.specs.declared.refused.Refused.TheVariants as refused
 use Rattle.hk_catalogue.proofs.RollSongs.{reasons, allowed, there}
-use Rattle.hk_operator.specs.WordBuffer.{Buffered, Keeps}
+use Rattle.hk_operator.specs.WordBuffer.{Buffered, KeepsWords}
 use Rattle.hk_operator.specs.Sound.{IsFixed}
 use Rattle.hk_operator.specs.OnShelf.{IsOnShelf, IsDecided, StaysPublished}
 
@@ -62,7 +62,7 @@ count_tests rules songs id words fixed most = elim (cases_lt words (2 ^ 64 - 1))
 ]
 
 -- the tests on the shelf, of the words that are counted
-pub kept_reasons : (rules : Rules) (view : ShelfView) (state : OperatorState) (kept : Buffered) (all : List ℕ) (id : ℕ) → IsFixed rules → IsOnShelf rules view state → Keeps kept all
+pub kept_reasons : (rules : Rules) (view : ShelfView) (state : OperatorState) (kept : Buffered) (all : List ℕ) (id : ℕ) → IsFixed rules → IsOnShelf rules view state → KeepsWords kept all
     → kept.room ≡ rules.limits.positions → kept.room ≤ 2 ^ 24
     → option_map reason_of (first_that_holds (add_tests view.limits (lengths_of view.present) id kept.count)) ≡ first_that_holds (add_refusals rules (present rules state) id (length all))
 kept_reasons rules view state kept all id fixed at is room most =
@@ -95,7 +95,7 @@ change_on_shelf rules view state change at = record {
 }
 
 -- the words of a song that isn't refused were all kept
-pub all_kept : (rules : Rules) (view : ShelfView) (state : OperatorState) (kept : Buffered) (all : List ℕ) (id : ℕ) → IsOnShelf rules view state → Keeps kept all
+pub all_kept : (rules : Rules) (view : ShelfView) (state : OperatorState) (kept : Buffered) (all : List ℕ) (id : ℕ) → IsOnShelf rules view state → KeepsWords kept all
     → kept.room ≡ rules.limits.positions → kept.room ≤ 2 ^ 24 → first_that_holds (add_tests view.limits (lengths_of view.present) id kept.count) ≡ None → kept.words ≡ all
 all_kept rules view state kept all id at is room most none =
     let may = allowed view.limits (lengths_of view.present) id kept.count none in
@@ -205,7 +205,7 @@ pub no_memory_so : (tests : Option Reason) (Stays Staged : Type 0) → tests ≡
 no_memory_so tests Stays Staged is stays = subst (λ t. IsDecided t (Refused NoMemory) Stays Staged) (sym is) (refl, stays)
 
 -- the tests of a block's words are those of the words that are counted, where no test holds of these
-pub tests_of_block : (rules : Rules) (view : ShelfView) (state : OperatorState) (kept : Buffered) (all : List ℕ) (id : ℕ) (words : List ℕ) → IsFixed rules → IsOnShelf rules view state → Keeps kept all
+pub tests_of_block : (rules : Rules) (view : ShelfView) (state : OperatorState) (kept : Buffered) (all : List ℕ) (id : ℕ) (words : List ℕ) → IsFixed rules → IsOnShelf rules view state → KeepsWords kept all
     → kept.room ≡ rules.limits.positions → kept.room ≤ 2 ^ 24 → words ≡ kept.words → first_that_holds (add_tests view.limits (lengths_of view.present) id kept.count) ≡ None
     → (option_map reason_of (first_that_holds (add_tests view.limits (lengths_of view.present) id (length words))) ≡ first_that_holds (add_refusals rules (present rules state) id (length all)))
     × (words ≡ all)

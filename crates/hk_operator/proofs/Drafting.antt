@@ -15,7 +15,7 @@ use Rattle.hk_operator_wire.proofs.Saying.{Says, SaysNothing, SaysWord, SaysForm
 use Rattle.hk_operator_wire.proofs.Coming.{Begins, Goes, comes}
 use Rattle.hk_operator_wire.proofs.Payloads.{no_words, one_word, same_words, same_id, same_kind, id_is}
 use Rattle.hk_operator.specs.WordBuffer as keeping
-use Rattle.hk_operator.specs.WordBuffer.{Keeps, with_word}
+use Rattle.hk_operator.specs.WordBuffer.{KeepsWords, with_word}
 use Rattle.hk_operator.specs.Draft.{IsDraft, draft_after}
 use Rattle.hk_operator.specs.declared.draft.Draft.{Draft}
 use Rattle.std.proofs.lemmas.List.{get_or_append_left}
@@ -29,10 +29,10 @@ take_more_kept zero xs x = refl
 take_more_kept (suc n) [] x = refl
 take_more_kept (suc n) (y ∷ ys) x = ap (λ zs. y ∷ zs) (take_more_kept n ys x)
 
-pub keeps_nothing : (room : ℕ) → Keeps (record { words = []; count = 0; room = room }) []
+pub keeps_nothing : (room : ℕ) → KeepsWords (record { words = []; count = 0; room = room }) []
 keeps_nothing room = record { words = sym (nothing_taken room); count = refl }
 
-pub keeps_more : (kept : keeping.Buffered) (all : List ℕ) (word : ℕ) → Keeps kept all → Keeps (with_word kept word) (all ++ word ∷ [])
+pub keeps_more : (kept : keeping.Buffered) (all : List ℕ) (word : ℕ) → KeepsWords kept all → KeepsWords (with_word kept word) (all ++ word ∷ [])
 keeps_more kept all word is = record {
   words = ap (λ xs. take kept.room (xs ++ word ∷ [])) is.words ∙ take_more_kept kept.room all word;
   count = let c : kept.count ≡ min (length all) (2 ^ 64 - 1) = is.count in omega (arith, c, length-append all (word ∷ []));
@@ -85,8 +85,8 @@ module _ (d : Draft) (bytes : List ℕ) (b : ℕ) (some : 0 < length bytes) (is 
   ]
 
   keeps_same : (content_of (slice_index bytes 0) ≡ Words → 9 ≤ length bytes → ((length (bytes ++ b ∷ []) - 5) % 4 ≡ 0 → ⊥)) → content_of (slice_index (bytes ++ b ∷ []) 0) ≡ Words → 5 ≤ length bytes
-      → Keeps d.words (words_of (drop 9 (bytes ++ b ∷ [])))
-  keeps_same none kind there = subst (Keeps d.words) (sym (words_stay none kind)) (is.words (before kind) there)
+      → KeepsWords d.words (words_of (drop 9 (bytes ++ b ∷ [])))
+  keeps_same none kind there = subst (KeepsWords d.words) (sym (words_stay none kind)) (is.words (before kind) there)
 
   nothing_drafted : SaysNothing (bytes ++ b ∷ []) → IsDraft d (bytes ++ b ∷ [])
   nothing_drafted none =
@@ -112,7 +112,7 @@ module _ (d : Draft) (bytes : List ℕ) (b : ℕ) (some : 0 < length bytes) (is 
     kind = λ there. value;
     id = λ has nine. absurd (omega (arith, nine, five));
     form = λ kind eleven. absurd (omega (arith, eleven, five));
-    words = λ kind there. subst (Keeps (draft_after d (parts.Begin k)).words) (sym (no_words (bytes ++ b ∷ []) (omega (arith, five)))) (keeps_nothing d.words.room);
+    words = λ kind there. subst (KeepsWords (draft_after d (parts.Begin k)).words) (sym (no_words (bytes ++ b ∷ []) (omega (arith, five)))) (keeps_nothing d.words.room);
   }
 
   id_drafted : (id : ℕ) → length (bytes ++ b ∷ []) ≡ 9 → id ≡ last_number (bytes ++ b ∷ []) → IsDraft (draft_after d (parts.Id id)) (bytes ++ b ∷ [])
@@ -131,14 +131,14 @@ module _ (d : Draft) (bytes : List ℕ) (b : ℕ) (some : 0 < length bytes) (is 
       let far : 9 < length (bytes ++ b ∷ []) = word.some in
       let many : 9 ≤ length bytes = omega (arith, more, far) in
       let kind = before word.content in
-      let kept : Keeps d.words (words_of (drop 9 bytes)) = is.words kind (omega (arith, many)) in
+      let kept : KeepsWords d.words (words_of (drop 9 bytes)) = is.words kind (omega (arith, many)) in
       let grown : words_of (drop 9 (bytes ++ b ∷ [])) ≡ words_of (drop 9 bytes) ++ w ∷ [] =
       one_word bytes b many word.whole ∙ ap (λ x. words_of (drop 9 bytes) ++ x ∷ []) (sym word.value) in
       record {
         kind = λ five. kind_after (omega (arith, many));
         id = λ has nine. id_after many has;
         form = λ k eleven. absurd (two_contents word.content k (λ same. cc));
-        words = λ k five. subst (Keeps (with_word d.words w)) (sym grown) (keeps_more d.words (words_of (drop 9 bytes)) w kept);
+        words = λ k five. subst (KeepsWords (with_word d.words w)) (sym grown) (keeps_more d.words (words_of (drop 9 bytes)) w kept);
       }
 
   form_drafted : (f : Form) → SaysForm f (bytes ++ b ∷ []) → IsDraft (draft_after d (parts.Form f)) (bytes ++ b ∷ [])

@@ -1,4 +1,4 @@
--- What a byte is for an operator that stands for a calls and a state.
+-- What a byte is for an operator that stands for a stream and a state.
 use Rattle.std.proofs.Common.{◌≡◌, ℕ, ◌+◌, ◌^◌, ◌<◌, ◌≤◌, inl, inr, List, [], ◌∷◌, ◌++◌, length, drop, refl, sym, ◌∙◌, ap, subst, arith, length-append, append-nil, true, false, Option, Some, None, cond}
 use Rattle.std.specs.Prelude.{◌==◌, ◌||◌, is_some, slice_index, unwrap_or}
 use Rattle.std.specs.Option.{option_map_or, option_or}
@@ -28,7 +28,7 @@ use Rattle.hk_operator_wire.proofs.Reading.{next_bytes, last_command-next, in_he
 use Rattle.hk_operator_wire.proofs.Taking.{fault_is, item_at_fault, item_at_none, taken_in_order}
 use Rattle.hk_operator.specs.Draft.{IsDraft, Drafts, draft_after}
 use Rattle.hk_operator.specs.Sound.{IsRecording, sound_in, sound_of, sound_there, sound_ahead}
-use Rattle.hk_operator.specs.Obeying.{HasObeyed, HasMet, IsAtEnd, IsObeying, IsAtCommand, calls_after, new_commands, end_in, IsAnswered, next_number, counted}
+use Rattle.hk_operator.specs.Obeying.{HasObeyed, HasMet, IsAtEnd, IsObeying, IsAtCommand, stream_after, new_commands, end_in, IsAnswered, next_number, counted}
 use Rattle.hk_operator.specs.declared.done.Done.{Done}
 use Rattle.hk_operator.specs.declared.done.Done.TheVariants.{More, Over}
 use Rattle.hk_operator.specs.declared.operator.Operator.{Operator}
@@ -39,28 +39,28 @@ use Rattle.hk_operator.proofs.SoundThere.{next_sound}
 use Rattle.hk_operator.proofs.WholeCommands.{IsWhole, whole_is}
 use Rattle.hk_operator.proofs.CallsAfter.{maybe, same_fault_in, answered_as, no_end, over_stays, fault_ends, byte_used, commands_by, commands_now}
 
-module _ (rules : Rules) (op : Operator) (view : ShelfView) (calls : OperatorStream) (state : OperatorState) (b : ℕ) (h : IsObeying rules op view calls state)
+module _ (rules : Rules) (op : Operator) (view : ShelfView) (operator_stream : OperatorStream) (state : OperatorState) (b : ℕ) (h : IsObeying rules op view operator_stream state)
     (wire : OpWire) (item : OpItem) (pushes : Pushes op.wire b wire item) where
   abbrev used : List ℕ
-  used = calls.used ++ b ∷ []
+  used = operator_stream.used ++ b ∷ []
 
   abbrev bytes : List ℕ
-  bytes = last_command (calls.used ++ b ∷ [])
+  bytes = last_command (operator_stream.used ++ b ∷ [])
 
   limit_now : limit_of wire ≡ rules.bytes
   limit_now = pushes.limit_stays ∙ h.limit
 
-  at_end : (end : Option OpEnd) → calls.end ≡ end → IsAtEnd rules op calls.used state.song end
-  at_end end is = subst (IsAtEnd rules op calls.used state.song) is h.stream
+  at_end : (end : Option OpEnd) → operator_stream.end ≡ end → IsAtEnd rules op operator_stream.used state.song end
+  at_end end is = subst (IsAtEnd rules op operator_stream.used state.song) is h.stream
 
-  item_at : HasObeyed rules op calls.used state.song → item ≡ op_item_at rules.bytes used
-  item_at obeyed = pushes.item calls.used obeyed.taken ∙ ap (λ n. op_item_at n used) h.limit
+  item_at : HasObeyed rules op operator_stream.used state.song → item ≡ op_item_at rules.bytes used
+  item_at obeyed = pushes.item operator_stream.used obeyed.taken ∙ ap (λ n. op_item_at n used) h.limit
 
-  in_order : HasObeyed rules op calls.used state.song → operator_met rules.bytes used ≡ None → item ≡ item_of bytes
-  in_order obeyed none = item_at obeyed ∙ item_at_none rules.bytes used (fault_is rules.bytes calls.used b obeyed.no_fault ∙ none)
+  in_order : HasObeyed rules op operator_stream.used state.song → operator_met rules.bytes used ≡ None → item ≡ item_of bytes
+  in_order obeyed none = item_at obeyed ∙ item_at_none rules.bytes used (fault_is rules.bytes operator_stream.used b obeyed.no_fault ∙ none)
 
-  faulty : HasObeyed rules op calls.used state.song → (fault : WireFault) → operator_met rules.bytes used ≡ Some fault → item ≡ items.Fault fault
-  faulty obeyed fault met = item_at obeyed ∙ item_at_fault rules.bytes used fault (fault_is rules.bytes calls.used b obeyed.no_fault ∙ met)
+  faulty : HasObeyed rules op operator_stream.used state.song → (fault : WireFault) → operator_met rules.bytes used ≡ Some fault → item ≡ items.Fault fault
+  faulty obeyed fault met = item_at obeyed ∙ item_at_fault rules.bytes used fault (fault_is rules.bytes operator_stream.used b obeyed.no_fault ∙ met)
 
   -- the byte meets a fault, or met one before
   module _ (fault : WireFault) (is : item ≡ items.Fault fault) where
@@ -68,13 +68,13 @@ module _ (rules : Rules) (op : Operator) (view : ShelfView) (calls : OperatorStr
     now = record op { wire = wire }
 
     abbrev Ended : Type 0
-    Ended = (calls_after rules calls b).end ≡ Some (op_ends.Wire fault)
+    Ended = (stream_after rules operator_stream b).end ≡ Some (op_ends.Wire fault)
 
     abbrev Obeys : Type 0
-    Obeys = IsObeying rules now view (calls_after rules calls b) state
+    Obeys = IsObeying rules now view (stream_after rules operator_stream b) state
 
-    obeying_as : (after : OperatorStream) → calls_after rules calls b ≡ after → after.used ≡ calls.used → IsAtEnd rules now calls.used state.song after.end
-        → (end : OpEnd) → after.end ≡ Some end → Obeys × (new_commands rules calls b ≡ [])
+    obeying_as : (after : OperatorStream) → stream_after rules operator_stream b ≡ after → after.used ≡ operator_stream.used → IsAtEnd rules now operator_stream.used state.song after.end
+        → (end : OpEnd) → after.end ≡ Some end → Obeys × (new_commands rules operator_stream b ≡ [])
     obeying_as after same same_used stream end over = (
       subst (λ (c : OperatorStream). IsObeying rules now view c state) (sym same) (record {
         fixed = h.fixed;
@@ -86,13 +86,13 @@ module _ (rules : Rules) (op : Operator) (view : ShelfView) (calls : OperatorStr
         room = h.room;
         song_room = h.song_room;
       }),
-      commands_by rules calls b after same ∙ ap (λ e. cond (is_some e) [] (completed commands used)) over,
+      commands_by rules operator_stream b after same ∙ ap (λ e. cond (is_some e) [] (completed commands used)) over,
     )
 
-    met_now : HasObeyed rules op calls.used state.song → (f : WireFault) → operator_met rules.bytes used ≡ Some f → HasMet rules now (op_ends.Wire f)
+    met_now : HasObeyed rules op operator_stream.used state.song → (f : WireFault) → operator_met rules.bytes used ≡ Some f → HasMet rules now (op_ends.Wire f)
     met_now obeyed f met =
-        let taken : HasTaken wire used = pushes.taken calls.used obeyed.taken in
-        let found : operator_fault rules.bytes used ≡ Some f = fault_is rules.bytes calls.used b obeyed.no_fault ∙ met in
+        let taken : HasTaken wire used = pushes.taken operator_stream.used obeyed.taken in
+        let found : operator_fault rules.bytes used ≡ Some f = fault_is rules.bytes operator_stream.used b obeyed.no_fault ∙ met in
         record {
           fault = f;
           is = refl;
@@ -102,68 +102,68 @@ module _ (rules : Rules) (op : Operator) (view : ShelfView) (calls : OperatorStr
           met = found;
         }
 
-    over_by : (end : Option OpEnd) → calls.end ≡ end → Ended × (Obeys × (new_commands rules calls b ≡ []))
+    over_by : (end : Option OpEnd) → operator_stream.end ≡ end → Ended × (Obeys × (new_commands rules operator_stream b ≡ []))
     over_by None going =
-        let obeyed : HasObeyed rules op calls.used state.song = at_end None going in
+        let obeyed : HasObeyed rules op operator_stream.used state.song = at_end None going in
         elim (maybe (operator_met rules.bytes used)) [
           | inl none ↦ absurd (joined-no_fault (brought bytes) (is_whole_command bytes) fault (sym (in_order obeyed none) ∙ is))
           | inr some ↦
               let same : some.0 ≡ fault = same_fault_in some.0 fault (sym (faulty obeyed some.0 some.1) ∙ is) in
               let met : operator_met rules.bytes used ≡ Some fault = some.1 ∙ ap (λ f. Some f) same in
-              let after = fault_ends rules calls b fault going met in (
+              let after = fault_ends rules operator_stream b fault going met in (
                 ap (λ (c : OperatorStream). c.end) after,
-                obeying_as (record { used = calls.used; end = Some (op_ends.Wire fault) }) after refl (met_now obeyed fault met) (op_ends.Wire fault) refl,
+                obeying_as (record { used = operator_stream.used; end = Some (op_ends.Wire fault) }) after refl (met_now obeyed fault met) (op_ends.Wire fault) refl,
               )
         ]
     over_by (Some end) over =
         let hm : HasMet rules op end = at_end (Some end) over in
         let same : hm.fault ≡ fault = same_fault_in hm.fault fault (sym (pushes.same_fault hm.fault hm.kept) ∙ is) in
         let stays : wire ≡ op.wire = pushes.fault_changes_nothing hm.fault hm.kept in
-        let after = over_stays rules calls b end over in
+        let after = over_stays rules operator_stream b end over in
         let kept : HasMet rules now end = subst (λ (w : OpWire). HasMet rules (record op { wire = w }) end) (sym stays) hm in (
           ap (λ (c : OperatorStream). c.end) after ∙ over ∙ ap (λ e. Some e) (hm.is ∙ ap (λ g. op_ends.Wire g) same),
-          obeying_as calls after refl (subst (IsAtEnd rules now calls.used state.song) (sym over) kept) end over,
+          obeying_as operator_stream after refl (subst (IsAtEnd rules now operator_stream.used state.song) (sym over) kept) end over,
         )
 
-    pub fault_over : Some (op_ends.Wire fault) ≡ (calls_after rules calls b).end
-    fault_over = sym (over_by calls.end refl).0
+    pub fault_over : Some (op_ends.Wire fault) ≡ (stream_after rules operator_stream b).end
+    fault_over = sym (over_by operator_stream.end refl).0
 
-    pub fault_answered : (n : ℕ) → IsAnswered rules state n (new_commands rules calls b) (Over (op_ends.Wire fault)) (IsObeying rules now view (calls_after rules calls b))
+    pub fault_answered : (n : ℕ) → IsAnswered rules state n (new_commands rules operator_stream b) (Over (op_ends.Wire fault)) (IsObeying rules now view (stream_after rules operator_stream b))
     fault_answered n =
-        let by = over_by calls.end refl in
-        subst (λ cs. IsAnswered rules state n cs (Over (op_ends.Wire fault)) (IsObeying rules now view (calls_after rules calls b))) (sym by.1.1) by.1.0
+        let by = over_by operator_stream.end refl in
+        subst (λ cs. IsAnswered rules state n cs (Over (op_ends.Wire fault)) (IsObeying rules now view (stream_after rules operator_stream b))) (sym by.1.1) by.1.0
 
-  met_by : (end : Option OpEnd) → is_some end ≡ true → calls.end ≡ end → (fault : WireFault) × (fault_met op.wire ≡ Some fault)
+  met_by : (end : Option OpEnd) → is_some end ≡ true → operator_stream.end ≡ end → (fault : WireFault) × (fault_met op.wire ≡ Some fault)
   met_by None some is = absurd (both_ways false refl some)
   met_by (Some end) some is = let hm : HasMet rules op end = at_end (Some end) is in (hm.fault, hm.kept)
 
   -- one that is over stays as it is
-  pub over_same : is_some calls.end ≡ true → record op { wire = wire } ≡ op
-  over_same some = let met = met_by calls.end some refl in ap (λ (w : OpWire). record op { wire = w }) (pushes.fault_changes_nothing met.0 met.1)
+  pub over_same : is_some operator_stream.end ≡ true → record op { wire = wire } ≡ op
+  over_same some = let met = met_by operator_stream.end some refl in ap (λ (w : OpWire). record op { wire = w }) (pushes.fault_changes_nothing met.0 met.1)
 
-  pub never_on : ((fault : WireFault) → item ≡ items.Fault fault → ⊥) → is_some calls.end ≡ true → ⊥
-  never_on known some = let met = met_by calls.end some refl in known met.0 (pushes.same_fault met.0 met.1)
+  pub never_on : ((fault : WireFault) → item ≡ items.Fault fault → ⊥) → is_some operator_stream.end ≡ true → ⊥
+  never_on known some = let met = met_by operator_stream.end some refl in known met.0 (pushes.same_fault met.0 met.1)
 
   -- the byte meets no fault
   record IsOn : Type 0 where
-    going : calls.end ≡ None
-    obeyed : HasObeyed rules op calls.used state.song
+    going : operator_stream.end ≡ None
+    obeyed : HasObeyed rules op operator_stream.used state.song
     met : operator_met rules.bytes used ≡ None
     item_is : item ≡ item_of bytes
     draft : IsDraft (draft_after op.draft (part_of item)) bytes
-    sound : sound_there bytes ≡ sound_ahead (last_command calls.used) ++ sound_in (part_of item)
-    below : length calls.used < rules.bytes
+    sound : sound_there bytes ≡ sound_ahead (last_command operator_stream.used) ++ sound_in (part_of item)
+    below : length operator_stream.used < rules.bytes
 
-  below_limit : operator_met rules.bytes used ≡ None → length calls.used < rules.bytes
-  below_limit none = elim (cases_lt (length calls.used) rules.bytes) [
+  below_limit : operator_met rules.bytes used ≡ None → length operator_stream.used < rules.bytes
+  below_limit none = elim (cases_lt (length operator_stream.used) rules.bytes) [
     | inl below ↦ below
-    | inr past ↦ absurd (let no_fault : None ≡ Some (TooLong rules.bytes) = sym none ∙ too_long rules.bytes calls.used b past in cc)
+    | inr past ↦ absurd (let no_fault : None ≡ Some (TooLong rules.bytes) = sym none ∙ too_long rules.bytes operator_stream.used b past in cc)
   ]
 
-  hello_on : calls.end ≡ None → HasObeyed rules op calls.used state.song → operator_met rules.bytes used ≡ None → length calls.used < 4 → IsOn
+  hello_on : operator_stream.end ≡ None → HasObeyed rules op operator_stream.used state.song → operator_met rules.bytes used ≡ None → length operator_stream.used < 4 → IsOn
   hello_on going obeyed none short =
-      let nothing : bytes ≡ [] = hello_stays calls.used b short in
-      let before : last_command calls.used ≡ [] = in_hello calls.used (omega arith) in
+      let nothing : bytes ≡ [] = hello_stays operator_stream.used b short in
+      let before : last_command operator_stream.used ≡ [] = in_hello operator_stream.used (omega arith) in
       let part : part_of item ≡ parts.Nothing = ap part_of (in_order obeyed none) ∙ ap (λ xs. part_of (item_of xs)) nothing in
       record {
         going = going;
@@ -175,10 +175,10 @@ module _ (rules : Rules) (op : Operator) (view : ShelfView) (calls : OperatorStr
         below = below_limit none;
       }
 
-  command_on : calls.end ≡ None → HasObeyed rules op calls.used state.song → operator_met rules.bytes used ≡ None → 4 ≤ length calls.used → IsOn
+  command_on : operator_stream.end ≡ None → HasObeyed rules op operator_stream.used state.song → operator_met rules.bytes used ≡ None → 4 ≤ length operator_stream.used → IsOn
   command_on going obeyed none far =
-      let before : List ℕ = last_command calls.used in
-      let next : bytes ≡ next_bytes (last_command calls.used) b = last_command-next calls.used b far in
+      let before : List ℕ = last_command operator_stream.used in
+      let next : bytes ≡ next_bytes (last_command operator_stream.used) b = last_command-next operator_stream.used b far in
       let part : part_of item ≡ brought (next_bytes before b) = ap part_of (in_order obeyed none) ∙ part-joined (brought bytes) (is_whole_command bytes) ∙ ap brought next in
       record {
         going = going;
@@ -191,11 +191,11 @@ module _ (rules : Rules) (op : Operator) (view : ShelfView) (calls : OperatorStr
         below = below_limit none;
       }
 
-  goes_by : ((fault : WireFault) → item ≡ items.Fault fault → ⊥) → (end : Option OpEnd) → calls.end ≡ end → IsOn
+  goes_by : ((fault : WireFault) → item ≡ items.Fault fault → ⊥) → (end : Option OpEnd) → operator_stream.end ≡ end → IsOn
   goes_by known None going =
-      let obeyed : HasObeyed rules op calls.used state.song = at_end None going in
+      let obeyed : HasObeyed rules op operator_stream.used state.song = at_end None going in
       elim (maybe (operator_met rules.bytes used)) [
-        | inl none ↦ elim (cases_lt (length calls.used) 4) [ inl short ↦ hello_on going obeyed none short | inr far ↦ command_on going obeyed none far ]
+        | inl none ↦ elim (cases_lt (length operator_stream.used) 4) [ inl short ↦ hello_on going obeyed none short | inr far ↦ command_on going obeyed none far ]
         | inr some ↦ absurd (known some.0 (faulty obeyed some.0 some.1))
       ]
   goes_by known (Some end) over = let hm : HasMet rules op end = at_end (Some end) over in absurd (known hm.fault (pushes.same_fault hm.fault hm.kept))
@@ -208,14 +208,14 @@ module _ (rules : Rules) (op : Operator) (view : ShelfView) (calls : OperatorStr
     mid = record op { wire = wire; draft = draft; recorder = recorder }
 
     on : IsOn
-    on = goes_by known calls.end refl
+    on = goes_by known operator_stream.end refl
 
     draft_now : IsDraft draft bytes
     draft_now = subst (λ d. IsDraft d bytes) (sym (draft_eq ∙ ap (draft_after op.draft) part_eq)) on.draft
 
     recording : IsRecording rules recorder state.song (sound_there bytes)
-    recording = subst (IsRecording rules recorder state.song) (sym (on.sound ∙ ap (λ p. sound_ahead (last_command calls.used) ++ sound_in p) (sym part_eq)))
-        (hears (sound_ahead (last_command calls.used)) on.obeyed.recording)
+    recording = subst (IsRecording rules recorder state.song) (sym (on.sound ∙ ap (λ p. sound_ahead (last_command operator_stream.used) ++ sound_in p) (sym part_eq)))
+        (hears (sound_ahead (last_command operator_stream.used)) on.obeyed.recording)
 
     draft_room : draft.words.room ≡ rules.limits.positions
     draft_room = ap (λ (d : Draft). d.words.room) draft_eq ∙ room_stays op.draft part ∙ h.room
@@ -224,33 +224,33 @@ module _ (rules : Rules) (op : Operator) (view : ShelfView) (calls : OperatorStr
     whole_ends = ap ends on.item_is ∙ ends-joined (brought bytes) (is_whole_command bytes)
 
     order_now : IsInOrder bytes
-    order_now = taken_in_order wire used (pushes.taken calls.used on.obeyed.taken)
-        (ap (λ n. operator_fault n used) limit_now ∙ fault_is rules.bytes calls.used b on.obeyed.no_fault ∙ on.met)
+    order_now = taken_in_order wire used (pushes.taken operator_stream.used on.obeyed.taken)
+        (ap (λ n. operator_fault n used) limit_now ∙ fault_is rules.bytes operator_stream.used b on.obeyed.no_fault ∙ on.met)
 
-    used_now : calls_after rules calls b ≡ record { used = used; end = None }
-    used_now = byte_used rules calls b on.going on.met
+    used_now : stream_after rules operator_stream b ≡ record { used = used; end = None }
+    used_now = byte_used rules operator_stream b on.going on.met
 
     obeyed_now : (operator : Operator) (now : OperatorState) → operator.wire ≡ wire → operator.draft ≡ draft
         → IsRecording rules operator.recorder now.song (sound_ahead bytes) → HasObeyed rules operator used now.song
     obeyed_now operator now same_wire same_draft heard =
-        let few : length (commands calls.used) ≤ length calls.used = on.obeyed.few in
+        let few : length (commands operator_stream.used) ≤ length operator_stream.used = on.obeyed.few in
         record {
-          taken = subst (λ (w : OpWire). HasTaken w used) (sym same_wire) (pushes.taken calls.used on.obeyed.taken);
-          no_fault = fault_is rules.bytes calls.used b on.obeyed.no_fault ∙ on.met;
+          taken = subst (λ (w : OpWire). HasTaken w used) (sym same_wire) (pushes.taken operator_stream.used on.obeyed.taken);
+          no_fault = fault_is rules.bytes operator_stream.used b on.obeyed.no_fault ∙ on.met;
           draft = subst (λ d. IsDraft d bytes) (sym same_draft) draft_now;
           recording = heard;
-          few = omega (arith, few, length-append calls.used (b ∷ []), grown);
+          few = omega (arith, few, length-append operator_stream.used (b ∷ []), grown);
         }
       where
         by : (o : Option Command) → length (cons_option o []) ≤ 1
         by None = omega arith
         by (Some c) = omega arith
 
-        grown : length (commands (calls.used ++ b ∷ [])) ≤ length (commands calls.used) + 1
+        grown : length (commands (operator_stream.used ++ b ∷ [])) ≤ length (commands operator_stream.used) + 1
         grown =
-            let more : length (commands (calls.used ++ b ∷ [])) ≡ length (commands calls.used ++ cons_option (whole_command bytes) []) = ap length (commands-append calls.used b) in
-            let sum : length (commands calls.used ++ cons_option (whole_command bytes) []) ≡ length (commands calls.used) + length (cons_option (whole_command bytes) []) =
-            length-append (commands calls.used) (cons_option (whole_command bytes) []) in
+            let more : length (commands (operator_stream.used ++ b ∷ [])) ≡ length (commands operator_stream.used ++ cons_option (whole_command bytes) []) = ap length (commands-append operator_stream.used b) in
+            let sum : length (commands operator_stream.used ++ cons_option (whole_command bytes) []) ≡ length (commands operator_stream.used) + length (cons_option (whole_command bytes) []) =
+            length-append (commands operator_stream.used) (cons_option (whole_command bytes) []) in
             let one : length (cons_option (whole_command bytes) []) ≤ 1 = by (whole_command bytes) in
             omega (arith, more, sum, one)
 
@@ -265,8 +265,8 @@ module _ (rules : Rules) (op : Operator) (view : ShelfView) (calls : OperatorStr
       ahead : sound_ahead bytes ≡ sound_there bytes
       ahead = ap (λ t. cond t [] (sound_there bytes)) open_command
 
-      same_number : length (commands calls.used) ≡ length (commands used)
-      same_number = ap length (sym (commands-append calls.used b ∙ ap (λ o. commands calls.used ++ cons_option o []) no_command ∙ append-nil (commands calls.used)))
+      same_number : length (commands operator_stream.used) ≡ length (commands used)
+      same_number = ap length (sym (commands-append operator_stream.used b ∙ ap (λ o. commands operator_stream.used ++ cons_option o []) no_command ∙ append-nil (commands operator_stream.used)))
 
       more_obeys : IsObeying rules mid view (record { used = used; end = None }) state
       more_obeys = record {
@@ -280,13 +280,13 @@ module _ (rules : Rules) (op : Operator) (view : ShelfView) (calls : OperatorStr
         song_room = song_room ∙ h.song_room;
       }
 
-      pub more_over : None ≡ (calls_after rules calls b).end
+      pub more_over : None ≡ (stream_after rules operator_stream b).end
       more_over = sym (ap (λ (c : OperatorStream). c.end) used_now)
 
-      pub more_answered : (n : ℕ) → IsAnswered rules state n (new_commands rules calls b) More (IsObeying rules mid view (calls_after rules calls b))
+      pub more_answered : (n : ℕ) → IsAnswered rules state n (new_commands rules operator_stream b) More (IsObeying rules mid view (stream_after rules operator_stream b))
       more_answered n =
-          subst (λ cs. IsAnswered rules state n cs More (IsObeying rules mid view (calls_after rules calls b)))
-          (sym (commands_now rules calls b on.going on.met ∙ ap (λ o. cons_option o []) no_command))
+          subst (λ cs. IsAnswered rules state n cs More (IsObeying rules mid view (stream_after rules operator_stream b)))
+          (sym (commands_now rules operator_stream b on.going on.met ∙ ap (λ o. cons_option o []) no_command))
           (subst (λ (c : OperatorStream). IsObeying rules mid view c state) (sym used_now) more_obeys)
 
     -- a command ends
@@ -300,15 +300,15 @@ module _ (rules : Rules) (op : Operator) (view : ShelfView) (calls : OperatorStr
       none_ahead : sound_ahead bytes ≡ []
       none_ahead = ap (λ t. cond t [] (sound_there bytes)) whole_command_is
 
-      one_more : length (commands used) ≡ length (commands calls.used) + 1
-      one_more = ap length (commands-append calls.used b ∙ ap (λ o. commands calls.used ++ cons_option o []) whole.is) ∙ length-append (commands calls.used) (whole.command ∷ [])
+      one_more : length (commands used) ≡ length (commands operator_stream.used) + 1
+      one_more = ap length (commands-append operator_stream.used b ∙ ap (λ o. commands operator_stream.used ++ cons_option o []) whole.is) ∙ length-append (commands operator_stream.used) (whole.command ∷ [])
 
-      number_is : next_number mid ≡ length (commands calls.used) + 1
+      number_is : next_number mid ≡ length (commands operator_stream.used) + 1
       number_is =
-          let few : length (commands calls.used) ≤ length calls.used = on.obeyed.few in
+          let few : length (commands operator_stream.used) ≤ length operator_stream.used = on.obeyed.few in
           let short : rules.bytes < 2 ^ 64 = h.short in
-          let now : op.commands ≡ length (commands calls.used) = h.number in
-          let below : length calls.used < rules.bytes = on.below in
+          let now : op.commands ≡ length (commands operator_stream.used) = h.number in
+          let below : length operator_stream.used < rules.bytes = on.below in
           omega (arith, few, short, now, below)
 
       pub at_command : IsAtCommand rules mid view state (sound_of whole.command)
@@ -320,7 +320,7 @@ module _ (rules : Rules) (op : Operator) (view : ShelfView) (calls : OperatorStr
         song_room = song_room ∙ h.song_room;
       }
 
-      obeys : (new : Operator) (view' : ShelfView) → new ≡ counted mid new.recorder → (now : OperatorState) → IsAtCommand rules new view' now [] → IsObeying rules new view' (calls_after rules calls b) now
+      obeys : (new : Operator) (view' : ShelfView) → new ≡ counted mid new.recorder → (now : OperatorState) → IsAtCommand rules new view' now [] → IsObeying rules new view' (stream_after rules operator_stream b) now
       obeys new view' kept now at = subst (λ (c : OperatorStream). IsObeying rules new view' c now) (sym used_now) (record {
         fixed = at.fixed;
         stream = obeyed_now new now (ap (λ (o : Operator). o.wire) kept) (ap (λ (o : Operator). o.draft) kept)
@@ -336,32 +336,32 @@ module _ (rules : Rules) (op : Operator) (view : ShelfView) (calls : OperatorStr
       module _ (new : Operator) (view' : ShelfView) (kept : new ≡ counted mid new.recorder) (done : Done)
           (answered : (command : Command) → IsAtCommand rules mid view state (sound_of command) → Drafts draft command
           → IsAnswered rules state (next_number mid) (command ∷ []) done (λ now. IsAtCommand rules new view' now [])) where
-        pub command_over : end_in done ≡ (calls_after rules calls b).end
+        pub command_over : end_in done ≡ (stream_after rules operator_stream b).end
         command_over = no_end rules state (next_number mid) whole.command done (λ now. IsAtCommand rules new view' now []) (answered whole.command at_command whole.draft)
             ∙ sym (ap (λ (c : OperatorStream). c.end) used_now)
 
-        pub command_answered : IsAnswered rules state (length (commands calls.used) + 1) (new_commands rules calls b) done (IsObeying rules new view' (calls_after rules calls b))
+        pub command_answered : IsAnswered rules state (length (commands operator_stream.used) + 1) (new_commands rules operator_stream b) done (IsObeying rules new view' (stream_after rules operator_stream b))
         command_answered =
-            subst (λ cs. IsAnswered rules state (length (commands calls.used) + 1) cs done (IsObeying rules new view' (calls_after rules calls b)))
-            (sym (commands_now rules calls b on.going on.met ∙ ap (λ o. cons_option o []) whole.is))
-            (answered_as rules state (next_number mid) (length (commands calls.used) + 1) whole.command done (λ now. IsAtCommand rules new view' now [])
-            (IsObeying rules new view' (calls_after rules calls b)) number_is (obeys new view' kept) (answered whole.command at_command whole.draft))
+            subst (λ cs. IsAnswered rules state (length (commands operator_stream.used) + 1) cs done (IsObeying rules new view' (stream_after rules operator_stream b)))
+            (sym (commands_now rules operator_stream b on.going on.met ∙ ap (λ o. cons_option o []) whole.is))
+            (answered_as rules state (next_number mid) (length (commands operator_stream.used) + 1) whole.command done (λ now. IsAtCommand rules new view' now [])
+            (IsObeying rules new view' (stream_after rules operator_stream b)) number_is (obeys new view' kept) (answered whole.command at_command whole.draft))
 
 -- how the stream ends
-module _ (rules : Rules) (op : Operator) (view : ShelfView) (calls : OperatorStream) (state : OperatorState) (h : IsObeying rules op view calls state)
+module _ (rules : Rules) (op : Operator) (view : ShelfView) (operator_stream : OperatorStream) (state : OperatorState) (h : IsObeying rules op view operator_stream state)
     (wrong : Option WireFault) (tells : (text : List ℕ) → HasTaken op.wire text → wrong ≡ operator_wrong (limit_of op.wire) text) where
-  ended_by : (end : Option OpEnd) → calls.end ≡ end → IsAtEnd rules op calls.used state.song end → option_map_or (λ fault. op_ends.Wire fault) wrong op_ends.Ended ≡ operator_end_of rules calls
+  ended_by : (end : Option OpEnd) → operator_stream.end ≡ end → IsAtEnd rules op operator_stream.used state.song end → option_map_or (λ fault. op_ends.Wire fault) wrong op_ends.Ended ≡ operator_end_of rules operator_stream
   ended_by None going obeyed =
-      ap (λ w. option_map_or (λ fault. op_ends.Wire fault) w op_ends.Ended) (tells calls.used obeyed.taken ∙ ap (λ n. operator_wrong n calls.used) h.limit)
-      ∙ sym (ap (λ e. unwrap_or e (option_map_or (λ fault. op_ends.Wire fault) (operator_wrong rules.bytes calls.used) op_ends.Ended)) going)
+      ap (λ w. option_map_or (λ fault. op_ends.Wire fault) w op_ends.Ended) (tells operator_stream.used obeyed.taken ∙ ap (λ n. operator_wrong n operator_stream.used) h.limit)
+      ∙ sym (ap (λ e. unwrap_or e (option_map_or (λ fault. op_ends.Wire fault) (operator_wrong rules.bytes operator_stream.used) op_ends.Ended)) going)
   ended_by (Some end) over met =
       let border : Option WireFault = cond ((length met.text == 0) || ends_at_start operator_grammar met.text) None (Some (Cut (length met.text))) in
       ap (λ w. option_map_or (λ fault. op_ends.Wire fault) w op_ends.Ended)
       (tells met.text met.taken ∙ ap (λ n. operator_wrong n met.text) h.limit ∙ ap (λ o. option_or o border) met.met)
-      ∙ sym met.is ∙ sym (ap (λ e. unwrap_or e (option_map_or (λ fault. op_ends.Wire fault) (operator_wrong rules.bytes calls.used) op_ends.Ended)) over)
+      ∙ sym met.is ∙ sym (ap (λ e. unwrap_or e (option_map_or (λ fault. op_ends.Wire fault) (operator_wrong rules.bytes operator_stream.used) op_ends.Ended)) over)
 
-  pub ended_is : option_map_or (λ fault. op_ends.Wire fault) wrong op_ends.Ended ≡ operator_end_of rules calls
-  ended_is = ended_by calls.end refl h.stream
+  pub ended_is : option_map_or (λ fault. op_ends.Wire fault) wrong op_ends.Ended ≡ operator_end_of rules operator_stream
+  ended_is = ended_by operator_stream.end refl h.stream
 
 pub no_commands : length (commands []) ≡ 0
 unfolding commands packets pieces_within

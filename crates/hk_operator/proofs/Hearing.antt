@@ -14,9 +14,9 @@ use Rattle.hk_spec_streams.specs.Pieces.{is_one_of}
 use Rattle.hk_spec_streams.specs.Operator.{OpenSong, Audio}
 use Rattle.hk_spec_runs.specs.OperatorState.{OperatorState, UnfinishedSong, answer, after, words_heard, with_audio}
 use Rattle.hk_spec_settings.specs.Settings.{Rules}
-use Rattle.hk_front.specs.Hearing.{Hearing, HasTaken, KeepsRules, channels_of, factor_of, prints_in}
+use Rattle.hk_front.specs.Hearing.{Hearing, HasAnalysed, KeepsRules, channels_of, factor_of, prints_in}
 use Rattle.hk_spec_sound.proofs.Silence.{samples_of-nil, decimated-nil, frame_energies-nil}
-use Rattle.hk_operator.specs.WordBuffer.{Buffered, Keeps, with_word, cleared}
+use Rattle.hk_operator.specs.WordBuffer.{Buffered, KeepsWords, with_word, cleared}
 use Rattle.hk_operator.specs.Sound.{IsFixed, IsAllowedForm, IsRecording, Hears}
 use Rattle.hk_operator.specs.declared.recorder.Recorder.{Recorder}
 use Rattle.hk_operator.proofs.Drafting.{keeps_nothing, keeps_more}
@@ -52,22 +52,22 @@ abbrev pub kept_after : Buffered → Option Print → Buffered
 kept_after kept None = kept
 kept_after kept (Some print) = with_word kept print.word
 
-keeps_print : (kept : Buffered) (all : List ℕ) (print : Option Print) → Keeps kept all
-    → Keeps (kept_after kept print) (all ++ map (λ (p : Print). p.word) (option_to_list print))
-keeps_print kept all None is = subst (Keeps kept) (sym (append-nil all)) is
+keeps_print : (kept : Buffered) (all : List ℕ) (print : Option Print) → KeepsWords kept all
+    → KeepsWords (kept_after kept print) (all ++ map (λ (p : Print). p.word) (option_to_list print))
+keeps_print kept all None is = subst (KeepsWords kept) (sym (append-nil all)) is
 keeps_print kept all (Some print) is = keeps_more kept all print.word is
 
 -- a byte more
 pub hears_more : (rules : Rules) (r : Recorder) (song : Option UnfinishedSong) (sound : List ℕ) (b : ℕ) (front : Hearing) (print : Option Print) → IsFixed rules
-    → (r.song ≡ None → ⊥) → KeepsRules r.front front → ((bytes : List ℕ) → HasTaken r.front bytes → HasTaken front (bytes ++ b ∷ []))
-    → ((bytes : List ℕ) → HasTaken r.front bytes → prints_in r.front (bytes ++ b ∷ []) ≡ prints_in r.front bytes ++ option_to_list print)
+    → (r.song ≡ None → ⊥) → KeepsRules r.front front → ((bytes : List ℕ) → HasAnalysed r.front bytes → HasAnalysed front (bytes ++ b ∷ []))
+    → ((bytes : List ℕ) → HasAnalysed r.front bytes → prints_in r.front (bytes ++ b ∷ []) ≡ prints_in r.front bytes ++ option_to_list print)
     → IsRecording rules r song sound
     → IsRecording rules (record r { front = front; words = kept_after r.words print }) song (sound ++ b ∷ [])
 hears_more rules r None sound b front print fixed opened keeps taken prints is = absurd (opened is)
 hears_more rules r (Some song) sound b front print fixed opened keeps taken prints is =
     let heard : List ℕ = song.audio ++ sound in
     let longer : List ℕ = heard ++ b ∷ [] in
-    let kept : Keeps r.words (words_heard rules (record song { audio = heard })) = is.words in
+    let kept : KeepsWords r.words (words_heard rules (record song { audio = heard })) = is.words in
     let grown : words_heard rules (record song { audio = longer }) ≡ words_heard rules (record song { audio = heard }) ++ map (λ (p : Print). p.word) (option_to_list print) =
     recorded_is rules r.front song.id song.form longer fixed is.channels is.factor
     ∙ ap (map (λ (p : Print). p.word)) (prints heard is.taken)
@@ -79,7 +79,7 @@ hears_more rules r (Some song) sound b front print fixed opened keeps taken prin
       channels = keeps.1.0 ∙ is.channels;
       factor = keeps.1.1 ∙ is.factor;
       taken = taken heard is.taken;
-      words = subst (Keeps (kept_after r.words print)) (sym grown) (keeps_print r.words (words_heard rules (record song { audio = heard })) print kept);
+      words = subst (KeepsWords (kept_after r.words print)) (sym grown) (keeps_print r.words (words_heard rules (record song { audio = heard })) print kept);
     })
 
 -- nothing is heard
@@ -180,7 +180,7 @@ allowed_factor form is = small_factor form.factor is.1
 
 -- a song that begins
 pub song_begun : (rules : Rules) (r : Recorder) (state : OperatorState) (id : ℕ) (form : Form) (kept : Buffered) → IsFixed rules → IsAllowedForm form
-    → r.song ≡ Some id → channels_of r.front ≡ form.channels → factor_of r.front ≡ form.factor → HasTaken r.front [] → r.words ≡ cleared kept
+    → r.song ≡ Some id → channels_of r.front ≡ form.channels → factor_of r.front ≡ form.factor → HasAnalysed r.front [] → r.words ≡ cleared kept
     → IsRecording rules r (after rules state (OpenSong id form) Done).song []
 unfolding after
 song_begun rules r state id form kept fixed allowed song channels factor taken words =
@@ -195,7 +195,7 @@ song_begun rules r state id form kept fixed allowed song channels factor taken w
       channels = channels;
       factor = factor;
       taken = taken;
-      words = subst (Keeps r.words) (sym none) (subst (λ (k : Buffered). Keeps k []) (sym words) (keeps_nothing kept.room));
+      words = subst (KeepsWords r.words) (sym none) (subst (λ (k : Buffered). KeepsWords k []) (sym words) (keeps_nothing kept.room));
     }
 
 pub none_not_some : {A : Type 0} (o : Option A) → is_some o ≡ true → o ≡ None → ⊥

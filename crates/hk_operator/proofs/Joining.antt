@@ -18,40 +18,40 @@ use Rattle.hk_spec_settings.specs.Settings.{Rules}
 use Rattle.hk_spec_runs.specs.Replay.{Scene, OperatorStream, obeyed, for_operator}
 use Rattle.hk_block.specs.Looker.{ShelfView}
 use Rattle.hk_operator.specs.OnShelf.{IsOnShelf}
-use Rattle.hk_operator.specs.Obeying.{IsObeying, calls_after, new_commands}
+use Rattle.hk_operator.specs.Obeying.{IsObeying, stream_after, new_commands}
 use Rattle.hk_operator.specs.declared.operator.Operator.{Operator}
 
 module _ (rules : Rules) (refused : List ℕ) (scene : Scene) (used : List ℕ) where
-  -- the scene after a byte, by whether the calls is over and by the fault that the byte meets
+  -- the scene after a byte, by whether the stream is over and by the fault that the byte meets
   scene_by : Option OpEnd → Option WireFault → Scene
   scene_by end met =
       cond (is_some end) scene
-      (option_map_or (λ fault. record scene { calls = record { used = scene.calls.used; end = Some (op_ends.Wire fault) } }) met
-      (fold (obeyed rules refused) (record scene { calls = record { used = used; end = None } }) (enumerate_from (length (commands scene.calls.used) + 1) (completed commands used))))
+      (option_map_or (λ fault. record scene { operator_stream = record { used = scene.operator_stream.used; end = Some (op_ends.Wire fault) } }) met
+      (fold (obeyed rules refused) (record scene { operator_stream = record { used = used; end = None } }) (enumerate_from (length (commands scene.operator_stream.used) + 1) (completed commands used))))
 
-  calls_by : Option OpEnd → Option WireFault → OperatorStream
-  calls_by end met = cond (is_some end) scene.calls
-      (option_map_or (λ fault. record { used = scene.calls.used; end = Some (op_ends.Wire fault) }) met (record { used = used; end = None }))
+  stream_by : Option OpEnd → Option WireFault → OperatorStream
+  stream_by end met = cond (is_some end) scene.operator_stream
+      (option_map_or (λ fault. record { used = scene.operator_stream.used; end = Some (op_ends.Wire fault) }) met (record { used = used; end = None }))
 
   folded : OperatorStream → List Command → Scene
-  folded calls cs = fold (obeyed rules refused) (record scene { calls = calls }) (enumerate_from (length (commands scene.calls.used) + 1) cs)
+  folded operator_stream cs = fold (obeyed rules refused) (record scene { operator_stream = operator_stream }) (enumerate_from (length (commands scene.operator_stream.used) + 1) cs)
 
-  alike : (end : Option OpEnd) (met : Option WireFault) → scene.calls.end ≡ end
-      → scene_by end met ≡ folded (calls_by end met) (cond (is_some (calls_by end met).end) [] (completed commands used))
-  unfolding scene_by calls_by folded
-  alike (Some e) met is = sym (ap (λ o. fold (obeyed rules refused) scene (enumerate_from (length (commands scene.calls.used) + 1) (cond (is_some o) [] (completed commands used)))) is)
+  alike : (end : Option OpEnd) (met : Option WireFault) → scene.operator_stream.end ≡ end
+      → scene_by end met ≡ folded (stream_by end met) (cond (is_some (stream_by end met).end) [] (completed commands used))
+  unfolding scene_by stream_by folded
+  alike (Some e) met is = sym (ap (λ o. fold (obeyed rules refused) scene (enumerate_from (length (commands scene.operator_stream.used) + 1) (cond (is_some o) [] (completed commands used)))) is)
   alike None (Some f) is = refl
   alike None None is = refl
 
--- a byte's commands are obeyed with the calls that it leaves
+-- a byte's commands are obeyed with the stream that it leaves
 pub for_operator_is : (rules : Rules) (refused : List ℕ) (scene : Scene) (b : ℕ)
     → for_operator rules refused scene b
-    ≡ fold (obeyed rules refused) (record scene { calls = calls_after rules scene.calls b }) (enumerate_from (length (commands scene.calls.used) + 1) (new_commands rules scene.calls b))
-unfolding scene_by calls_by folded
+    ≡ fold (obeyed rules refused) (record scene { operator_stream = stream_after rules scene.operator_stream b }) (enumerate_from (length (commands scene.operator_stream.used) + 1) (new_commands rules scene.operator_stream b))
+unfolding scene_by stream_by folded
 for_operator_is rules refused scene b =
-    alike rules refused scene (scene.calls.used ++ b ∷ []) scene.calls.end (operator_met rules.bytes (scene.calls.used ++ b ∷ [])) refl
+    alike rules refused scene (scene.operator_stream.used ++ b ∷ []) scene.operator_stream.end (operator_met rules.bytes (scene.operator_stream.used ++ b ∷ [])) refl
 
-full_row : (t : Bool) → is_some (first_that_holds ((t, VersionsFull) ∷ [])) ≡ t
+pub full_row : (t : Bool) → is_some (first_that_holds ((t, VersionsFull) ∷ [])) ≡ t
 full_row true = refl
 full_row false = refl
 
@@ -84,10 +84,10 @@ module _ (rules : Rules) (view : ShelfView) (state : OperatorState) (at : IsOnSh
       limits = limits' ∙ at.limits;
     }
 
-    pub publish_obeyed : (operator : Operator) (calls : OperatorStream) → IsObeying rules operator view calls state
-        → IsObeying rules operator view' calls (after rules state Publish (Published (length state.journal + 1)))
+    pub publish_obeyed : (operator : Operator) (operator_stream : OperatorStream) → IsObeying rules operator view operator_stream state
+        → IsObeying rules operator view' operator_stream (after rules state Publish (Published (length state.journal + 1)))
     unfolding after
-    publish_obeyed operator calls h = record {
+    publish_obeyed operator operator_stream h = record {
       fixed = h.fixed;
       stream = h.stream;
       shelf = published_on_shelf;

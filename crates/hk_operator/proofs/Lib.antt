@@ -7,3 +7,4 @@ pub mod Deciding
 pub mod Following
 pub mod Completing
 pub mod Joining
+pub mod Answering

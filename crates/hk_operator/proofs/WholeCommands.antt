@@ -13,7 +13,7 @@ use Rattle.hk_spec_streams.proofs.GrowingCommands.{whole_command}
 use Rattle.hk_operator_wire.specs.Taken.{IsInOrder}
 use Rattle.hk_operator_wire.proofs.Ending.{content_is, has_id_is, fits_is, no_row}
 use Rattle.hk_operator.specs.Draft.{IsDraft, Drafts, DraftsAs}
-use Rattle.hk_operator.specs.WordBuffer.{Keeps}
+use Rattle.hk_operator.specs.WordBuffer.{KeepsWords}
 use Rattle.hk_operator.specs.Sound.{IsAllowedForm, sound_of, sound_if, sound_there}
 use Rattle.hk_operator.specs.declared.draft.Draft.{Draft}
 
@@ -48,7 +48,7 @@ module _ (d : Draft) (bytes : List ℕ) (order : IsInOrder bytes) (is : IsDraft 
       whole_as ADD_WORDS at (
         words_of (drop 4 (drop 5 bytes)),
         ap (λ id. AddWords id (words_of (drop 4 (drop 5 bytes)))) (sym (is.id (has_id_is bytes order ADD_WORDS at) (omega (arith, payload, least)))),
-        subst (λ xs. Keeps d.words (words_of xs)) (sym (drop-drop 4 5 bytes)) (is.words (content_is bytes order ADD_WORDS at) long_enough),
+        subst (λ xs. KeepsWords d.words (words_of xs)) (sym (drop-drop 4 5 bytes)) (is.words (content_is bytes order ADD_WORDS at) long_enough),
       ) refl
 
   opened : row_of (slice_index bytes 0) ≡ Some OPEN_SONG → IsWhole d bytes

@@ -5,7 +5,7 @@ use Rattle.hk_spec_streams.specs.Commands.{Row, Words, SoundForm, row_of, has_id
 use Rattle.hk_spec_streams.specs.Operator.{Command, AddWords, OpenSong, Audio, Close, Withdraw, Publish, id_of, words_of}
 use Rattle.hk_operator_wire.specs.declared.item.Part.{Part}
 use Rattle.hk_operator_wire.specs.declared.item.Part.TheVariants as parts
-use Rattle.hk_operator.specs.WordBuffer.{no_words, cleared, with_word, Keeps}
+use Rattle.hk_operator.specs.WordBuffer.{no_words, cleared, with_word, KeepsWords}
 use Rattle.hk_operator.specs.Sound.{IsAllowedForm}
 use Rattle.hk_operator.specs.declared.draft.Draft.{Draft}
 
@@ -26,11 +26,11 @@ pub record IsDraft (draft : Draft) (bytes : List ℕ) : Type 0 where
   pub kind : 5 ≤ length bytes → draft.kind ≡ slice_index bytes 0
   pub id : has_id (slice_index bytes 0) ≡ true → 9 ≤ length bytes → draft.id ≡ id_of (drop 5 bytes)
   pub form : content_of (slice_index bytes 0) ≡ SoundForm → 11 ≤ length bytes → draft.form ≡ record { channels = slice_index bytes 9; factor = slice_index bytes 10 }
-  pub words : content_of (slice_index bytes 0) ≡ Words → 5 ≤ length bytes → Keeps draft.words (words_of (drop 9 bytes))
+  pub words : content_of (slice_index bytes 0) ≡ Words → 5 ≤ length bytes → KeepsWords draft.words (words_of (drop 9 bytes))
 
 -- The draft is that of a whole command of this kind.
 abbrev pub DraftsAs : kinds.Kind → Draft → Command → Type 0
-DraftsAs kinds.AddWords draft command = (words : List ℕ) × (command ≡ AddWords draft.id words) × Keeps draft.words words
+DraftsAs kinds.AddWords draft command = (words : List ℕ) × (command ≡ AddWords draft.id words) × KeepsWords draft.words words
 DraftsAs kinds.OpenSong draft command = (command ≡ OpenSong draft.id draft.form) × IsAllowedForm draft.form
 DraftsAs kinds.Audio draft command = (bytes : List ℕ) × (command ≡ Audio bytes)
 DraftsAs kinds.Close draft command = command ≡ Close

@@ -4,3 +4,4 @@ pub mod Draft
 pub mod Sound
 pub mod OnShelf
 pub mod Obeying
+pub mod Answering

@@ -1,4 +1,4 @@
--- An operator, its shelf, and the calls and the state that they stand for.
+-- An operator, its shelf, and the stream and the state that they stand for.
 use Rattle.std.specs.Prelude.{◌≡◌, ℕ, ◌+◌, ◌-◌, ◌^◌, ◌<◌, ◌≤◌, min, Bool, true, false, if◌then◌else◌, List, [], ◌∷◌, ◌++◌, length, Option, Some, None, is_some}
 use Rattle.std.specs.Option.{option_map_or}
 use Rattle.hk_base.specs.declared.plain.OpEnd.{OpEnd}
@@ -41,12 +41,12 @@ abbrev pub IsAtEnd : Rules → Operator → List ℕ → Option UnfinishedSong �
 IsAtEnd rules operator used song None = HasObeyed rules operator used song
 IsAtEnd rules operator used song (Some end) = HasMet rules operator end
 
--- The operator and its shelf stand for a calls and a state.
-pub record IsObeying (rules : Rules) (operator : Operator) (view : ShelfView) (calls : OperatorStream) (state : OperatorState) : Type 0 where
+-- The operator and its shelf stand for a stream and a state.
+pub record IsObeying (rules : Rules) (operator : Operator) (view : ShelfView) (operator_stream : OperatorStream) (state : OperatorState) : Type 0 where
   pub fixed : IsFixed rules
-  pub stream : IsAtEnd rules operator calls.used state.song calls.end
+  pub stream : IsAtEnd rules operator operator_stream.used state.song operator_stream.end
   pub shelf : IsOnShelf rules view state
-  pub number : operator.commands ≡ length (commands calls.used)
+  pub number : operator.commands ≡ length (commands operator_stream.used)
   pub limit : limit_of operator.wire ≡ rules.bytes
   pub short : rules.bytes < 2 ^ 64
   pub room : operator.draft.words.room ≡ rules.limits.positions
@@ -60,19 +60,19 @@ pub record IsAtCommand (rules : Rules) (operator : Operator) (view : ShelfView) 
   pub room : operator.draft.words.room ≡ rules.limits.positions
   pub song_room : operator.recorder.words.room ≡ rules.limits.positions
 
-abbrev pub new_calls : OperatorStream
-new_calls = record { used = []; end = None }
+abbrev pub new_stream : OperatorStream
+new_stream = record { used = []; end = None }
 
--- the calls after a byte: over by the fault that it meets, or with the byte used; one that is over stays
-abbrev pub calls_after : Rules → OperatorStream → ℕ → OperatorStream
-calls_after rules calls byte =
-    let used = calls.used ++ byte ∷ [] in
-    if is_some calls.end then calls else
-    option_map_or (λ fault. record { used = calls.used; end = Some (ends.Wire fault) }) (operator_met rules.bytes used) (record { used = used; end = None })
+-- the stream after a byte: over by the fault that it meets, or with the byte used; one that is over stays
+abbrev pub stream_after : Rules → OperatorStream → ℕ → OperatorStream
+stream_after rules operator_stream byte =
+    let used = operator_stream.used ++ byte ∷ [] in
+    if is_some operator_stream.end then operator_stream else
+    option_map_or (λ fault. record { used = operator_stream.used; end = Some (ends.Wire fault) }) (operator_met rules.bytes used) (record { used = used; end = None })
 
--- the command that a byte ends, none where the calls is over then
+-- the command that a byte ends, none where the stream is over then
 abbrev pub new_commands : Rules → OperatorStream → ℕ → List Command
-new_commands rules calls byte = if is_some (calls_after rules calls byte).end then [] else completed commands (calls.used ++ byte ∷ [])
+new_commands rules operator_stream byte = if is_some (stream_after rules operator_stream byte).end then [] else completed commands (operator_stream.used ++ byte ∷ [])
 
 abbrev pub end_in : Done → Option OpEnd
 end_in (Over end) = Some end

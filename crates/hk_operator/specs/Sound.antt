@@ -14,7 +14,7 @@ use Rattle.hk_operator_wire.specs.declared.item.Part.TheVariants as parts
 use Rattle.hk_operator_wire.specs.Items.{is_whole_command}
 use Rattle.hk_front.specs.Hearing.{channels_of, factor_of}
 use Rattle.hk_front.specs.Hearing as front
-use Rattle.hk_operator.specs.WordBuffer.{Keeps}
+use Rattle.hk_operator.specs.WordBuffer.{KeepsWords}
 use Rattle.hk_operator.specs.declared.recorder.Recorder.{Recorder}
 
 -- the rules that are built in
@@ -55,8 +55,8 @@ pub record Hears (rules : Rules) (recorder : Recorder) (song : UnfinishedSong) (
   pub id : recorder.song ≡ Some song.id
   pub channels : channels_of recorder.front ≡ song.form.channels
   pub factor : factor_of recorder.front ≡ song.form.factor
-  pub taken : front.HasTaken recorder.front heard
-  pub words : Keeps recorder.words (words_heard rules (record song { audio = heard }))
+  pub taken : front.HasAnalysed recorder.front heard
+  pub words : KeepsWords recorder.words (words_heard rules (record song { audio = heard }))
 
 -- The recorder has heard the open song's sound, and the sound behind it.
 abbrev pub IsRecording : Rules → Recorder → Option UnfinishedSong → List ℕ → Type 0

@@ -18,6 +18,6 @@ abbrev pub with_word : Buffered → ℕ → Buffered
 with_word kept word = record kept { words = take kept.room (kept.words ++ word ∷ []); count = min (kept.count + 1) (2 ^ 64 - 1) }
 
 -- These are all words that came. The count stands still at its type's end.
-pub record Keeps (kept : Buffered) (all : List ℕ) : Type 0 where
+pub record KeepsWords (kept : Buffered) (all : List ℕ) : Type 0 where
   pub words : kept.words ≡ take kept.room all
   pub count : kept.count ≡ min (length all) (2 ^ 64 - 1)

@@ -1,5 +1,6 @@
 // The open command, as far as it came.
-ghost use Rattle.std.specs.Prelude.{◌≡◌, ◌≤◌, ◌^◌, IfOk};
+ghost use Rattle.std.specs.Prelude.{◌≡◌, IfOk};
+ghost use Rattle.hk_spec_sound.specs.Limits.{IsInRange, POSITIONS};
 ghost use Rattle.hk_operator.specs.Draft.{new_draft, draft_after};
 
 use crate::word_buffer::WordBuffer;
@@ -19,8 +20,7 @@ pub struct Draft {
 impl Draft {
     /// No command, with room for so many words.
     pub fn new(alloc: Global, room: u32) -> Result<Draft, NoMemory>
-        requires enough { 256 ≤ room }
-        requires most { room ≤ 2 ^ 24 }
+        requires { IsInRange POSITIONS room }
         ensures { IfOk result (λ d. d ≡ new_draft room) }
     {
         Ok(Draft {

@@ -1,5 +1,6 @@
 // The operator.
-ghost use Rattle.std.specs.Prelude.{◌≡◌, ◌≤◌, ◌^◌, ◌+◌, ℕ, [], ◌∷◌, length, IfOk, is_some, true, None};
+ghost use Rattle.std.specs.Prelude.{◌≡◌, ◌+◌, ℕ, [], ◌∷◌, length, IfOk, is_some, true, None};
+ghost use Rattle.hk_spec_sound.specs.Limits.{IsInRange, POSITIONS};
 ghost use Rattle.hk_spec_streams.specs.Operator.{Command, Close, commands};
 ghost use Rattle.hk_spec_runs.specs.OperatorState.{OperatorState, IsReply, after};
 ghost use Rattle.hk_spec_settings.specs.Settings.{Rules};
@@ -35,15 +36,14 @@ fn reply(number: u64, what: What) -> Done
 }
 
 impl Operator {
-    ghost use Rattle.hk_operator.specs.Obeying.{IsObeying, IsAtCommand, calls_after, new_calls, new_commands, end_in, IsAnswered, next_number, counted};
+    ghost use Rattle.hk_operator.specs.Obeying.{IsObeying, IsAtCommand, stream_after, new_stream, new_commands, end_in, IsAnswered, next_number, counted};
 
-    /// An operator that has taken nothing, for streams of at most `limit` bytes, and a shelf of `positions` words, 256 to
-    /// 2^24. It takes room for as many words of a command and of an open song, so that collecting them takes no memory.
+    /// An operator that has taken nothing, for streams of at most `limit` bytes, and a shelf of `positions` words. It takes
+    /// room for as many words of a command and of an open song, so that collecting them takes no memory.
     pub fn new(alloc: Global, limit: u64, positions: u32) -> Result<Operator, NoMemory>
-        requires enough { 256 ≤ positions }
-        requires most { positions ≤ 2 ^ 24 }
+        requires { IsInRange POSITIONS positions }
         ensures { IfOk result (λ operator. (rules : Rules) (view : ShelfView) (state : OperatorState) → IsFixed rules → rules.bytes ≡ limit → rules.limits.positions ≡ positions
-            → state.song ≡ None → IsOnShelf rules view state → IsObeying rules operator view new_calls state) }
+            → state.song ≡ None → IsOnShelf rules view state → IsObeying rules operator view new_stream state) }
     {
         Ok(Operator {
             alloc,
@@ -57,13 +57,13 @@ impl Operator {
     /// Takes the stream's next byte. The last byte of a command stages its edit and gives its reply, or hands a publish to
     /// the caller. After a fault each push answers that fault and changes nothing.
     pub fn push<S: Shelf>(&mut self, byte: u8, shelf: &mut S) -> Done
-        ensures over { (rules : Rules) (calls : OperatorStream) (state : OperatorState) → IsObeying rules self.old (S.shelf shelf.old) calls state
-            → end_in result ≡ (calls_after rules calls byte).end }
-        ensures answered { (rules : Rules) (calls : OperatorStream) (state : OperatorState) → IsObeying rules self.old (S.shelf shelf.old) calls state
-            → IsAnswered rules state (length (commands calls.used) + 1) (new_commands rules calls byte) result
-            (IsObeying rules self.new (S.shelf shelf.new) (calls_after rules calls byte)) }
-        ensures over_stays { (rules : Rules) (calls : OperatorStream) (state : OperatorState) → IsObeying rules self.old (S.shelf shelf.old) calls state
-            → is_some calls.end ≡ true → (self.new ≡ self.old) × (shelf.new ≡ shelf.old) }
+        ensures over { (rules : Rules) (operator_stream : OperatorStream) (state : OperatorState) → IsObeying rules self.old (S.shelf shelf.old) operator_stream state
+            → end_in result ≡ (stream_after rules operator_stream byte).end }
+        ensures answered { (rules : Rules) (operator_stream : OperatorStream) (state : OperatorState) → IsObeying rules self.old (S.shelf shelf.old) operator_stream state
+            → IsAnswered rules state (length (commands operator_stream.used) + 1) (new_commands rules operator_stream byte) result
+            (IsObeying rules self.new (S.shelf shelf.new) (stream_after rules operator_stream byte)) }
+        ensures over_stays { (rules : Rules) (operator_stream : OperatorStream) (state : OperatorState) → IsObeying rules self.old (S.shelf shelf.old) operator_stream state
+            → is_some operator_stream.end ≡ true → (self.new ≡ self.old) × (shelf.new ≡ shelf.old) }
         ensures published { StaysPublished (S.shelf shelf.old) (S.shelf shelf.new) }
     {
         let item = self.wire.push(byte);
@@ -122,8 +122,8 @@ impl Operator {
     /// How the stream ends here: by the fault that it met, with Ended where no byte came or the last command is whole, and
     /// else with Cut. Changes nothing.
     pub fn finish(&mut self) -> OpEnd
-        ensures end { (rules : Rules) (view : ShelfView) (calls : OperatorStream) (state : OperatorState) → IsObeying rules self.old view calls state
-            → result ≡ operator_end_of rules calls }
+        ensures end { (rules : Rules) (view : ShelfView) (operator_stream : OperatorStream) (state : OperatorState) → IsObeying rules self.old view operator_stream state
+            → result ≡ operator_end_of rules operator_stream }
         ensures changes_nothing { self.new ≡ self.old }
     {
         match self.wire.finish() {
@@ -134,8 +134,8 @@ impl Operator {
 
     /// How many commands were answered, publishes too.
     pub fn commands(&self) -> u64
-        ensures { (rules : Rules) (view : ShelfView) (calls : OperatorStream) (state : OperatorState) → IsObeying rules self.now view calls state
-            → result ≡ length (commands calls.used) }
+        ensures { (rules : Rules) (view : ShelfView) (operator_stream : OperatorStream) (state : OperatorState) → IsObeying rules self.now view operator_stream state
+            → result ≡ length (commands operator_stream.used) }
     {
         self.commands
     }

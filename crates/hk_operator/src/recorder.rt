@@ -1,5 +1,6 @@
 // The open song: its sound in, its words kept.
-ghost use Rattle.std.specs.Prelude.{◌≡◌, ◌≤◌, ◌^◌, ◌++◌, [], List, ℕ, Option, None, IfOk};
+ghost use Rattle.std.specs.Prelude.{◌≡◌, ◌≤◌, ◌++◌, [], List, ℕ, Option, None, IfOk};
+ghost use Rattle.hk_spec_sound.specs.Limits.{IsInRange, POSITIONS};
 ghost use Rattle.hk_spec_runs.specs.OperatorState.{OperatorState, UnfinishedSong, answer, after};
 ghost use Rattle.hk_spec_settings.specs.Settings.{Rules};
 ghost use Rattle.hk_spec_streams.specs.Operator.{OpenSong, Audio};
@@ -39,8 +40,7 @@ fn bounded(number: u8, most: u8) -> u8
 impl Recorder {
     /// No open song, with room for so many words of one. No bit of a print is weak, since the words alone are kept.
     pub fn new(alloc: Global, room: u32) -> Result<Recorder, NoMemory>
-        requires enough { 256 ≤ room }
-        requires most { room ≤ 2 ^ 24 }
+        requires { IsInRange POSITIONS room }
         ensures song { IfOk result (λ r. r.song ≡ None) }
         ensures words { IfOk result (λ r. r.words ≡ no_words room) }
     {

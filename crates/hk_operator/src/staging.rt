@@ -8,7 +8,7 @@ ghost use Rattle.hk_spec_streams.specs.Operator.{Withdraw};
 ghost use Rattle.hk_spec_matching.specs.Catalogue as edits;
 ghost use Rattle.hk_catalogue.specs.Refusals.{reason_of};
 ghost use Rattle.hk_catalogue.specs.Shelf.{IsChange, refusal_of, with_staged};
-ghost use Rattle.hk_operator.specs.WordBuffer.{Keeps};
+ghost use Rattle.hk_operator.specs.WordBuffer.{KeepsWords};
 ghost use Rattle.hk_operator.specs.Sound.{IsFixed};
 ghost use Rattle.hk_operator.specs.OnShelf.{IsOnShelf, IsDecided, StaysPublished};
 
@@ -49,7 +49,7 @@ fn stage<S: Shelf>(edit: Edit, shelf: &mut S) -> What
 /// Stages a song of these words, or tells why it can't be.
 pub fn add<S: Shelf>(alloc: Global, id: u32, words: &WordBuffer, shelf: &mut S) -> What
     ensures decided { (rules : Rules) (state : OperatorState) (all : List ℕ) → IsFixed rules → IsOnShelf rules (S.shelf shelf.old) state
-        → Keeps words.now all → words.now.room ≡ rules.limits.positions
+        → KeepsWords words.now all → words.now.room ≡ rules.limits.positions
         → IsDecided (first_that_holds (add_refusals rules (present rules state) id (length all))) result
         (IsOnShelf rules (S.shelf shelf.new) state) (IsOnShelf rules (S.shelf shelf.new) (with_edit rules state (edits.Add id (added_song rules all)))) }
     ensures published { StaysPublished (S.shelf shelf.old) (S.shelf shelf.new) }

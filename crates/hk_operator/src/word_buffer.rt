@@ -1,5 +1,6 @@
-// Buffered one after another, as many as there is room for.
-ghost use Rattle.std.specs.Prelude.{◌≡◌, ◌≤◌, ◌^◌, min, length, IfOk};
+// Words one after another, as many as there is room for.
+ghost use Rattle.std.specs.Prelude.{◌≡◌, ◌≤◌, min, length, IfOk};
+ghost use Rattle.hk_spec_sound.specs.Limits.{IsInRange, POSITIONS};
 ghost use Rattle.hk_operator.specs.WordBuffer.{no_words, cleared, with_word};
 
 use hk_base::NoMemory;
@@ -27,10 +28,9 @@ impl Model for WordBuffer {
 }
 
 impl WordBuffer {
-    /// Nothing yet, with room for 256 to 2^24 words, which is taken at once.
+    /// Nothing yet, with room for so many words, which is taken at once.
     pub fn new(alloc: Global, room: u32) -> Result<WordBuffer, NoMemory>
-        requires enough { 256 ≤ room }
-        requires most { room ≤ 2 ^ 24 }
+        requires { IsInRange POSITIONS room }
         ensures { IfOk result (λ k. k ≡ no_words room) }
     {
         match Vec::with_capacity(alloc, room as usize) {
@@ -67,7 +67,7 @@ impl WordBuffer {
     /// How many came in all.
     pub fn count(&self) -> u64
         ensures count { result ≡ self.now.count }
-        ensures room { self.now.room ≤ 2 ^ 24 }
+        ensures room { self.now.room ≤ POSITIONS.most }
     {
         self.count
     }
@@ -76,7 +76,7 @@ impl WordBuffer {
     pub fn copied(&self, alloc: Global) -> Result<Vec<u32>, NoMemory>
         ensures words { IfOk result (λ v. v.items ≡ self.now.words) }
         ensures long { IfOk result (λ v. min self.now.count 256 ≤ length v.items) }
-        ensures short { IfOk result (λ v. length v.items ≤ 2 ^ 24) }
+        ensures short { IfOk result (λ v. length v.items ≤ POSITIONS.most) }
     {
         match self.words.as_slice().to_vec(alloc) {
             Ok(words) => Ok(words),

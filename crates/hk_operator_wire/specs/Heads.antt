@@ -14,7 +14,7 @@ abbrev pub four_of : LastFour → List ℕ
 four_of recent = recent.bytes
 
 -- these are the last four bytes of some that end with the given ones
-pub record Ends (recent : LastFour) (bytes : List ℕ) : Type 0 where
+pub record HasLastFour (recent : LastFour) (bytes : List ℕ) : Type 0 where
   pub before : List ℕ
   pub four : length before ≡ 4
   pub is : four_of recent ≡ drop (length bytes) (before ++ bytes)

@@ -14,7 +14,7 @@ use Rattle.hk_spec_streams.specs.Operator.{operator_met}
 use Rattle.hk_operator_wire.specs.declared.item.OpItem.{OpItem}
 use Rattle.hk_operator_wire.specs.declared.item.OpItem.TheVariants as items
 use Rattle.hk_operator_wire.specs.Items.{last_command, op_item_at, IsPossible}
-use Rattle.hk_operator_wire.specs.Heads.{Ends}
+use Rattle.hk_operator_wire.specs.Heads.{HasLastFour}
 
 -- the bytes of a command that has no fault so far
 pub record IsInOrder (bytes : List ℕ) : Type 0 where
@@ -31,7 +31,7 @@ command_count reader = count_of reader.packet
 -- The reader stands at the end of a text without a fault: it has the last command's first bytes and its last four.
 pub record StandsAfter (reader : OpReader) (text : List ℕ) : Type 0 where
   pub packet : IsLast reader.packet (last_command text)
-  pub recent : Ends reader.recent (last_command text)
+  pub recent : HasLastFour reader.recent (last_command text)
   pub order : IsInOrder (last_command text)
 
 -- at most so many bytes are taken

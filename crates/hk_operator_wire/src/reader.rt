@@ -26,7 +26,7 @@ pub struct OpReader {
 impl OpReader {
     ghost use Rattle.hk_operator_wire.specs.Taken.{StandsAfter, command_count};
     ghost use Rattle.hk_operator_wire.specs.Items.{last_command, head_of, item_of};
-    ghost use Rattle.hk_operator_wire.specs.Heads.{Ends};
+    ghost use Rattle.hk_operator_wire.specs.Heads.{HasLastFour};
 
     pub fn new() -> OpReader
         ensures stands { StandsAfter result [] }
@@ -63,7 +63,7 @@ impl OpReader {
 
     // What the last command's last byte brings.
     fn item(&self, head: CommandHead, byte: u8) -> OpItem
-        ensures { (bytes : List ℕ) → IsLast self.now.packet bytes → Ends self.now.recent bytes → 0 < length bytes
+        ensures { (bytes : List ℕ) → IsLast self.now.packet bytes → HasLastFour self.now.recent bytes → 0 < length bytes
             → head ≡ head_of bytes → byte ≡ slice_index bytes (length bytes - 1) → result ≡ item_of bytes }
     {
         OpItem::joined(

@@ -8,5 +8,5 @@ pub record Sampling : Type 0 where
   pub group : List ℕ
 
 -- The reader has taken these bytes since its last reset. It keeps those of the group that has begun.
-abbrev pub HasTaken : Sampling → List ℕ → Type 0
-HasTaken reading bytes = reading.group ≡ begun (2 * reading.channels) (2 * reading.channels) bytes
+abbrev pub HasSampled : Sampling → List ℕ → Type 0
+HasSampled reading bytes = reading.group ≡ begun (2 * reading.channels) (2 * reading.channels) bytes

@@ -44,3 +44,16 @@ fn reset_drops_the_rest(rt: HostRuntime) {
     assert_eq!(rt; pcm.push(4), None);
     assert_eq!(rt; pcm.push(0), Some(3));
 }
+
+#[test]
+fn a_whole_group_is_read_at_once(rt: HostRuntime) {
+    let mut pcm = Pcm::new(2);
+    assert_eq!(rt; pcm.group_size(), 4);
+    assert!(rt; pcm.is_between_groups());
+    if pcm.is_between_groups() {
+        assert_eq!(rt; pcm.read_group(&[0xff, 0xff, 0x00, 0x00]), -1);
+        assert_eq!(rt; pcm.read_group(&[3, 0, 4, 0]), 3);
+    }
+    assert_eq!(rt; pcm.push(7), None);
+    assert!(rt; !pcm.is_between_groups());
+}

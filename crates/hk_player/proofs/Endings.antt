@@ -7,7 +7,7 @@ use Rattle.hk_base.specs.declared.plain.Trouble.TheVariants.{ReadFault}
 use Rattle.hk_spec_lines.specs.Lines.{trouble_line}
 use Rattle.hk_spec_runs.specs.Outcome.{Task, Trades, IsWhole, IsStopped, IsReadFault, IsWriteFault}
 use Rattle.hk_player.specs.Playing.{IsInForm, Ends, TearsEnd}
-use Rattle.hk_player.specs.Pieces.{HasPlayed, HasLeft, HasTorn}
+use Rattle.hk_player.specs.Pieces.{WasPlayed, HasLeft, HasTorn}
 
 module _ (t : Task) where
   -- an input that is read isn't left unread
@@ -72,7 +72,7 @@ module _ (b o line : List ℕ) (x y u v w : Option (List ℕ)) (took : Took b x 
   )
 
 -- All that was read was played, by a player whose task stayed.
-module _ (t t' : Task) (same : t' ≡ t) (P : List ℕ → List ℕ → Type 0) (x y u v w : Option (List ℕ)) (played : Trades x y u v (HasPlayed P t)) (form' : IsInForm t' played.0) where
+module _ (t t' : Task) (same : t' ≡ t) (P : List ℕ → List ℕ → Type 0) (x y u v w : Option (List ℕ)) (played : Trades x y u v (WasPlayed P t)) (form' : IsInForm t' played.0) where
   abbrev b : List ℕ
   b = played.0
 

@@ -1,6 +1,8 @@
 -- Steps of a player one after another, as what they read and write.
 use Rattle.std.proofs.Common.{◌≡◌, ℕ, ◌+◌, ◌<◌, ◌≤◌, List, [], ◌∷◌, ◌++◌, length, take, drop, get_or, sym, ◌∙◌, ap, arith, append_assoc, append-nil, add-one, drop-cons, Option}
-use Rattle.std.proofs.lemmas.List.{take-append-drop, take_more, length-take-le}
+use Rattle.std.proofs.lemmas.List.{take-append-drop, take_more, take_rest, length-take-le}
+use Rattle.std.specs.Prelude.{slice_range}
+use Rattle.std.proofs.Math.Seq.{take-append-add}
 use Rattle.hk_base.specs.Devices.{Took, Wrote}
 use Rattle.hk_base.proofs.Taking.{Took-append, Wrote-append, Wrote-nothing}
 use Rattle.hk_base.specs.declared.plain.Trouble.{Trouble}
@@ -18,6 +20,10 @@ module _ (t : Task) where
     second.1 ∙ ap (λ o. o ++ second.0) first.1 ∙ append_assoc (t.text text r) first.0 second.0,
     Wrote-append first.0 second.0 w x y first.2 second.2,
   )
+
+  -- bytes that complete nothing
+  pub Adds-listened : (r text r' mid long : List ℕ) (w x : Option (List ℕ)) → Adds t r text r' mid w x → t.text long r' ≡ t.text mid r' → Adds t r text r' long w x
+  Adds-listened r text r' mid long w x adds same = (adds.0, same ∙ adds.1, adds.2)
 
   -- a byte behind what was played meets a fault
   pub stops : (r text r' mid : List ℕ) (x : ℕ) (more : List ℕ) (trouble : Trouble) (w y : Option (List ℕ)) → Adds t r text r' mid w y
@@ -55,6 +61,16 @@ pub further : (text piece : List ℕ) (i : ℕ) → i < length piece
 further text piece i inside =
     ap (λ front. text ++ front) (take_more piece i 0 inside)
     ∙ sym (append_assoc text (take i piece) (get_or piece i 0 ∷ []))
+
+-- a front of a piece, and more of it
+pub on_from : (text piece : List ℕ) (at n : ℕ) → at ≤ length piece
+    → text ++ take (at + n) piece ≡ (text ++ take at piece) ++ take n (slice_range piece at (length piece))
+on_from text piece at n inside =
+    let front : length (take at piece) ≡ at = length-take-le at piece inside in
+    ap (λ p. text ++ p)
+    (ap (λ k. take (k + n) piece) (sym front) ∙ ap (take (length (take at piece) + n)) (sym (take-append-drop at piece)) ∙ take-append-add (take at piece) (drop at piece) n
+    ∙ ap (λ rest. take at piece ++ take n rest) (sym (take_rest piece at)))
+    ∙ sym (append_assoc text (take at piece) (take n (slice_range piece at (length piece))))
 
 -- A piece behind all bytes that were read so far.
 module _ (t : Task) (r b o piece : List ℕ) (x y z : Option (List ℕ)) (u v w : Option (List ℕ))

@@ -30,8 +30,8 @@ abbrev pub IsTorn : Task → List ℕ → List ℕ → List ℕ → Option (List
 IsTorn task refused text longer old new = (refused' : List ℕ) × AddsFront task refused text refused' longer old new
 
 -- all bytes that were read were played, and all that is printed for them was written
-abbrev pub HasPlayed : (List ℕ → List ℕ → Type 0) → Task → List ℕ → List ℕ → Type 0
-HasPlayed played task b o = (refused : List ℕ) × played refused b × (o ≡ task.text b refused)
+abbrev pub WasPlayed : (List ℕ → List ℕ → Type 0) → Task → List ℕ → List ℕ → Type 0
+WasPlayed played task b o = (refused : List ℕ) × played refused b × (o ≡ task.text b refused)
 
 -- the bytes that were read meet this fault, and what is printed up to there was written
 abbrev pub HasLeft : Task → Trouble → List ℕ → List ℕ → Type 0

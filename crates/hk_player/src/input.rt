@@ -1,8 +1,8 @@
 // The whole input, piece after piece.
-ghost use Rattle.std.specs.Prelude.{◌≡◌, []};
+ghost use Rattle.std.specs.Prelude.{◌≡◌, [], Some};
 ghost use Rattle.hk_base.specs.Devices.{Counts, IsNothing};
 ghost use Rattle.hk_player.specs.Endings.{Between};
-ghost use Rattle.hk_player.specs.Pieces.{HasPlayed, HasLeft, HasTorn, IfLeft};
+ghost use Rattle.hk_player.specs.Pieces.{WasPlayed, HasLeft, HasTorn, IfLeft};
 
 use crate::piece::{Played, play_piece};
 use crate::player::Player;
@@ -32,12 +32,13 @@ pub fn play_input<P: Player, S: Source, K: Sink, L: Ledger>(
     requires nothing_printed { (P.task player.old).text [] [] ≡ [] }
     ensures task_stays { P.task player.new ≡ P.task player.old }
     ensures end { result ≡ Stop.End → IsNothing (S.left input.new)
-        × Between S.Source K.Sink input.old input.new out.old out.new (HasPlayed (P.has_played player.new) (P.task player.old)) }
+        × Between S.Source K.Sink input.old input.new out.old out.new (WasPlayed (P.has_played player.new) (P.task player.old)) }
     ensures read_fault { result ≡ Stop.ReadFault →
-        Between S.Source K.Sink input.old input.new out.old out.new (HasPlayed (P.has_played player.new) (P.task player.old)) }
+        Between S.Source K.Sink input.old input.new out.old out.new (WasPlayed (P.has_played player.new) (P.task player.old)) }
     ensures stopped { IfLeft result (λ trouble.
         Between S.Source K.Sink input.old input.new out.old out.new (HasLeft (P.task player.old) trouble)) }
     ensures torn { result ≡ Stop.SinkFault → Between S.Source K.Sink input.old input.new out.old out.new (HasTorn (P.task player.old)) }
+    ensures met { IfLeft result (λ trouble. P.fault player.new ≡ Some trouble) }
     ensures reads { Counts (result ≡ Stop.ReadFault) (S.faults input.old) (S.faults input.new) }
     ensures writes { Counts (result ≡ Stop.SinkFault) (K.faults out.old) (K.faults out.new) }
 {

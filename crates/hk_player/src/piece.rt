@@ -1,5 +1,5 @@
-// Pieces of the input, byte after byte.
-ghost use Rattle.std.specs.Prelude.{◌≡◌, ◌++◌, ℕ, List};
+// Pieces of the input, each byte that completes something by itself.
+ghost use Rattle.std.specs.Prelude.{◌≡◌, ◌++◌, ℕ, List, Some};
 ghost use Rattle.hk_base.specs.Devices.{Counts};
 ghost use Rattle.hk_player.specs.Playing.{Adds};
 ghost use Rattle.hk_player.specs.Pieces.{StopsAt, IsTorn, IfPlayed};
@@ -31,11 +31,17 @@ pub fn play_piece<P: Player, K: Sink, L: Ledger>(
         → StopsAt (P.task player.old) refused text (text ++ piece.now) trouble (K.written out.old) (K.written out.new)) }
     ensures torn { result ≡ Played.SinkFault → (refused text : List ℕ) → P.has_played player.old refused text
         → IsTorn (P.task player.old) refused text (text ++ piece.now) (K.written out.old) (K.written out.new) }
+    ensures met { IfPlayed result (λ trouble. P.fault player.new ≡ Some trouble) }
     ensures faults { Counts (result ≡ Played.SinkFault) (K.faults out.old) (K.faults out.new) }
 {
-    for byte in piece {
-        match player.take(*byte, out, steps) {
-            Taken::Going => {}
+    let mut at = 0;
+    for _turn in 0..piece.len() {
+        at += player.listen(&piece[at..]);
+        if at == piece.len() {
+            return Played::All;
+        }
+        match player.take(piece[at], out, steps) {
+            Taken::Going => at += 1,
             Taken::Stopped(trouble) => return Played::Stopped(trouble),
             Taken::SinkFault => return Played::SinkFault,
         }

@@ -1,6 +1,7 @@
-// What takes an input byte after byte.
-ghost use Rattle.std.specs.Prelude.{◌≡◌, ◌++◌, [], ◌∷◌, ℕ, List, Some};
+// What takes an input piece after piece.
+ghost use Rattle.std.specs.Prelude.{◌≡◌, ◌≤◌, ◌++◌, [], ◌∷◌, ℕ, List, Option, Some, None, length, take};
 ghost use Rattle.hk_base.specs.Devices.{Counts};
+ghost use Rattle.hk_base.specs.declared.plain.Trouble.{Trouble};
 ghost use Rattle.hk_spec_runs.specs.Outcome.{Task};
 ghost use Rattle.hk_player.specs.Playing.{Adds, StopsBehind, TearsBehind, Ends, TearsEnd, IsInForm, IfStopped, IfWhole, IfWrong};
 
@@ -33,7 +34,20 @@ pub trait Player {
     /// list has the numbers.
     ghost has_played: { Self → List ℕ → List ℕ → Type 0 };
 
-    /// Takes the next byte of the input, and writes what it completes.
+    /// The fault of the input that it has met.
+    ghost fault: { Self → Option Trouble };
+
+    /// Takes a front of the piece whose bytes complete nothing, and answers how many they are.
+    fn listen(&mut self, piece: &[u8]) -> usize
+        ensures within { result ≤ length piece.now }
+        ensures task_stays { task self.new ≡ task self.old }
+        ensures fault_stays { fault self.new ≡ fault self.old }
+        ensures listened { (refused text : List ℕ) → has_played self.old refused text
+            → has_played self.new refused (text ++ take result piece.now)
+            × ((task self.old).text (text ++ take result piece.now) refused ≡ (task self.old).text text refused) };
+
+    /// Takes the next byte of the input, and writes what it completes. After a fault each byte is answered with that fault.
+    /// A failed write is no fault of the input, which goes on.
     fn take<K: Sink, L: Ledger>(&mut self, byte: u8, out: &mut K, steps: &mut Steps<L>) -> Taken
         ensures task_stays { task self.new ≡ task self.old }
         ensures going { result ≡ Taken.Going → (refused text : List ℕ) → has_played self.old refused text
@@ -44,6 +58,9 @@ pub trait Player {
         ensures stopped_unwritten { IfStopped result (λ trouble. K.written out.new ≡ K.written out.old) }
         ensures torn { result ≡ Taken.SinkFault → (refused text : List ℕ) → has_played self.old refused text
             → TearsBehind (task self.old) refused text byte (K.written out.old) (K.written out.new) }
+        ensures met { IfStopped result (λ trouble. fault self.new ≡ Some trouble) }
+        ensures same_fault { (trouble : Trouble) → fault self.old ≡ Some trouble → result ≡ Taken.Stopped trouble }
+        ensures torn_goes_on { result ≡ Taken.SinkFault → (refused text : List ℕ) → has_played self.old refused text → fault self.new ≡ None }
         ensures faults { Counts (result ≡ Taken.SinkFault) (K.faults out.old) (K.faults out.new) };
 
     /// Ends the input, and writes the last lines where nothing is wrong with its end.
@@ -55,8 +72,12 @@ pub trait Player {
         ensures wrong_unwritten { IfWrong result (λ trouble. K.written out.new ≡ K.written out.old) }
         ensures torn { result ≡ Finished.Torn → (refused text : List ℕ) → has_played self.old refused text
             → TearsEnd (task self.old) refused text (K.written out.old) (K.written out.new) }
+        ensures same_fault { (trouble : Trouble) → fault self.old ≡ Some trouble → result ≡ Finished.Wrong trouble }
         ensures faults { Counts (result ≡ Finished.Torn) (K.faults out.old) (K.faults out.new) };
 
     /// What was played has no fault.
     ghost in_form: { (p : Self) (refused text : List ℕ) → has_played p refused text → IsInForm (task p) text };
+
+    /// No fault was met by then.
+    ghost none_met: { (p : Self) (refused text : List ℕ) → has_played p refused text → fault p ≡ None };
 }

@@ -1,8 +1,9 @@
 -- A byte more of the sound.
-use Rattle.std.proofs.Common.{◌≡◌, ℕ, ◌+◌, ◌<◌, ◌≤◌, List, [], ◌∷◌, ◌++◌, length, sym, ◌∙◌, ap, arith, length-append, append-nil, append_assoc, Option}
+use Rattle.std.proofs.Common.{◌≡◌, ℕ, ◌+◌, ◌<◌, ◌≤◌, List, [], ◌∷◌, ◌++◌, length, sym, ◌∙◌, ap, arith, length-append, append-nil, append_assoc, refl, Bool, true, false, cond, Option, Some, None}
 use Rattle.std.specs.Prelude.{option_to_list}
 use Rattle.hk_base.specs.declared.plain.Print.{Print}
 use Rattle.hk_spec_sound.specs.Prints.{full_analysis, prints_of_sound}
+use Rattle.hk_base.specs.declared.plain.Trouble.{Trouble}
 use Rattle.hk_base.specs.declared.plain.Trouble.TheVariants.{TooLong}
 use Rattle.hk_spec_lines.specs.Lines.{print_line}
 use Rattle.hk_spec_runs.specs.Words.{Printing, Print as Prints}
@@ -15,6 +16,11 @@ use Rattle.hk_printer.specs.Sounding.{lines_of}
 use Rattle.hk_printer.specs.Printed.{HasPrinted, printing_of}
 use Rattle.hk_printer.proofs.Growing.{lines-more}
 use Rattle.hk_printer.proofs.Limits.{form_within, all_printed, prints_on, over_it, cut_off}
+
+-- what a printer tells that has met a fault
+pub fault_told : (over : Bool) (limit : ℕ) (t : Trouble) → cond over (Some (TooLong limit)) None ≡ Some t → (over ≡ true) × (TooLong limit ≡ t)
+fault_told true limit t is = (refl, cc)
+fault_told false limit t is = absurd (cc)
 
 -- a front that keeps its rules finds the same prints
 same_prints : (old new : Hearing) (bytes : List ℕ) → KeepsRules old new → fronts.prints_in new bytes ≡ fronts.prints_in old bytes
@@ -31,9 +37,9 @@ module _ (old : Printer) (text : List ℕ) (b : ℕ) (h : HasPrinted old text) (
   pub within : length (text ++ b ∷ []) ≤ old.limit
   within = omega (arith, room, long)
 
-  pub takes : (new : Printer) → KeepsRules old.front new.front → fronts.HasTaken new.front (text ++ b ∷ []) → new.limit ≡ old.limit → new.taken ≡ old.taken + 1
-      → new.lines ≡ old.lines + length (option_to_list given) → HasPrinted new (text ++ b ∷ [])
-  takes new keeps heard limit taken lines =
+  pub takes : (new : Printer) → KeepsRules old.front new.front → fronts.HasAnalysed new.front (text ++ b ∷ []) → new.limit ≡ old.limit → new.taken ≡ old.taken + 1
+      → new.lines ≡ old.lines + length (option_to_list given) → new.is_over ≡ old.is_over → HasPrinted new (text ++ b ∷ [])
+  takes new keeps heard limit taken lines over =
       let count : length (fronts.prints_in old.front (text ++ b ∷ [])) ≡ length (fronts.prints_in old.front text) + length (option_to_list given) =
       ap length prints ∙ length-append (fronts.prints_in old.front text) (option_to_list given) in
       let same : length (fronts.prints_in new.front (text ++ b ∷ [])) ≡ length (fronts.prints_in old.front (text ++ b ∷ [])) = ap length (same_prints old.front new.front (text ++ b ∷ []) keeps) in
@@ -46,6 +52,7 @@ module _ (old : Printer) (text : List ℕ) (b : ℕ) (h : HasPrinted old text) (
         within = omega (arith, within, limit);
         most = omega (arith, h.most, limit);
         lines = omega (arith, lines, h.lines, count, same);
+        none_met = ap (λ o. cond o (Some (TooLong new.limit)) None) over ∙ ap (λ n. cond old.is_over (Some (TooLong n)) None) limit ∙ h.none_met;
       }
 
 -- the line of one print

@@ -1,5 +1,7 @@
 -- A printer and the sound that it has printed.
-use Rattle.std.specs.Prelude.{◌≡◌, ℕ, ◌≤◌, ◌<◌, ◌^◌, List, length}
+use Rattle.std.specs.Prelude.{◌≡◌, ℕ, ◌≤◌, ◌<◌, ◌^◌, if◌then◌else◌, List, length, Option, Some, None}
+use Rattle.hk_base.specs.declared.plain.Trouble.{Trouble}
+use Rattle.hk_base.specs.declared.plain.Trouble.TheVariants.{TooLong}
 use Rattle.hk_spec_runs.specs.Words.{Printing, Print}
 use Rattle.hk_spec_runs.specs.Outcome.{task_of}
 use Rattle.hk_front.specs.Hearing as fronts
@@ -15,13 +17,18 @@ printing_of printer = record {
   bytes = printer.limit;
 }
 
+-- the fault that the printer has met: a byte came past its limit
+abbrev pub fault_met : Printer → Option Trouble
+fault_met printer = if printer.is_over then Some (TooLong printer.limit) else None
+
 -- The printer has taken these bytes, which are no more than its limit, and has written a line for each of their prints.
 pub record HasPrinted (printer : Printer) (bytes : List ℕ) : Type 0 where
   pub some_channels : 1 ≤ fronts.channels_of printer.front
   pub some_factor : 1 ≤ fronts.factor_of printer.front
-  pub heard : fronts.HasTaken printer.front bytes
+  pub heard : fronts.HasAnalysed printer.front bytes
   pub taken : printer.taken ≡ length bytes
   pub in_form : IsInForm (task_of (Print (printing_of printer))) bytes
   pub within : length bytes ≤ printer.limit
   pub most : printer.limit < 2 ^ 63
   pub lines : printer.lines ≡ length (fronts.prints_in printer.front bytes)
+  pub none_met : fault_met printer ≡ None

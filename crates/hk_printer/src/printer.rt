@@ -1,5 +1,5 @@
 // Sound that is printed.
-ghost use Rattle.std.specs.Prelude.{◌≡◌, ◌≤◌, ◌<◌, ◌^◌, ℕ, List, [], IfOk};
+ghost use Rattle.std.specs.Prelude.{◌≡◌, ◌≤◌, ◌<◌, ◌^◌, ℕ, List, [], IfOk, true};
 ghost use Rattle.hk_spec_runs.specs.Words.{Printing};
 
 use hk_base::{NoMemory, Sink, Steps, Trouble};
@@ -9,14 +9,17 @@ use hk_report::write_print;
 use std::alloc::Global;
 use std::sync::ledger::Ledger;
 
-/// Sound as far as it was printed: what its front hears, how many bytes were taken, and how many lines were written.
+/// Sound as far as it was printed: what its front hears, how many bytes were taken, how many lines were written, and
+/// whether a byte came past the limit.
 #[derive(Drop)]
 pub struct Printer {
     front: Front,
     limit: u64,
     taken: u64,
     lines: u64,
+    is_over: bool,
     ghost within: { taken ≤ limit },
+    ghost over_at_limit: { is_over ≡ true → taken ≡ limit },
     ghost fewer: { lines ≤ taken },
 }
 
@@ -47,6 +50,7 @@ impl Printer {
             limit,
             taken: 0,
             lines: 0,
+            is_over: false,
         })
     }
 }
@@ -54,14 +58,25 @@ impl Printer {
 impl Player for Printer {
     ghost use Rattle.hk_spec_runs.specs.Words.{Print};
     ghost use Rattle.hk_spec_runs.specs.Outcome.{task_of};
-    ghost use Rattle.hk_printer.specs.Printed.{HasPrinted, printing_of};
+    ghost use Rattle.hk_printer.specs.Printed.{HasPrinted, printing_of, fault_met};
 
     ghost task = { λ p. task_of (Print (printing_of p)) };
 
     ghost has_played = { λ p refused text. HasPrinted p text };
 
+    ghost fault = { fault_met };
+
+    fn listen(&mut self, piece: &[u8]) -> usize {
+        let room = self.limit - self.taken;
+        let within = room.min(piece.len() as u64) as usize;
+        let count = self.front.listen(&piece[..within]);
+        self.taken += count as u64;
+        count
+    }
+
     fn take<K: Sink, L: Ledger>(&mut self, byte: u8, out: &mut K, _steps: &mut Steps<L>) -> Taken {
         if self.taken == self.limit {
+            self.is_over = true;
             return Taken::Stopped(Trouble::TooLong(self.limit));
         }
         self.taken += 1;
@@ -78,8 +93,13 @@ impl Player for Printer {
     }
 
     fn finish<K: Sink>(&mut self, _out: &mut K) -> Finished {
+        if self.is_over {
+            return Finished::Wrong(Trouble::TooLong(self.limit));
+        }
         Finished::Whole(true)
     }
 
     ghost in_form = { λ p refused text h. h.in_form };
+
+    ghost none_met = { λ p refused text h. h.none_met };
 }

@@ -13,7 +13,7 @@ use Rattle.hk_base.specs.declared.plain.Match.{Match}
 use Rattle.hk_spec_sound.specs.Windows.{window, window_count}
 use Rattle.hk_spec_matching.specs.Catalogue.{Song, Songs, positions_of}
 use Rattle.hk_spec_matching.specs.Matching.{Query, match_at, errors_of, is_hit, matches, matches_of_song}
-use Rattle.hk_block.specs.Room.{comes_before, IsInOrder}
+use Rattle.hk_block.specs.Room.{is_before, AreSorted}
 use Rattle.hk_catalogue.specs.Entries.{AreAbove, AreRising}
 use Rattle.hk_probe.specs.Search.{HaveSame}
 use Rattle.hk_probe.proofs.Starts.{all_starts}
@@ -60,7 +60,7 @@ ltb_chain a b c first second = grind (arith, nat_tests)
 ltb_both : (a b : ℕ) → nat_lt a b ≡ false → nat_lt b a ≡ false → a ≡ b
 ltb_both a b first second = grind (arith, nat_tests)
 
-order_of_matches : IsStrictWeakOrder comes_before
+order_of_matches : IsStrictWeakOrder is_before
 order_of_matches = record {
   one_way = λ x y.
       by_number_one_way x.id y.id _ _ (by_number_one_way x.start y.start _ _ (ltb_one_way x.errors y.errors));
@@ -75,7 +75,7 @@ by_number_both a b r s first second = elim (not_before a b r first) [
 ]
 
 -- matches of which neither comes before the other are the same
-same_match : (m n : Match) → comes_before m n ≡ false → comes_before n m ≡ false → m ≡ n
+same_match : (m n : Match) → is_before m n ≡ false → is_before n m ≡ false → m ≡ n
 same_match m n first second =
     let ids = by_number_both m.id n.id _ _ first second in
     let starts = by_number_both m.start n.start _ _ ids.1 ids.2 in
@@ -83,7 +83,7 @@ same_match m n first second =
     let make : ℕ → ℕ → ℕ → Match = λ id start errors. record { id = id; start = start; errors = errors } in
     ap (λ id. make id m.start m.errors) ids.0 ∙ ap (λ start. make n.id start m.errors) starts.0 ∙ ap (make n.id n.start) errors
 
-not_itself : (m : Match) → comes_before m m ≡ false
+not_itself : (m : Match) → is_before m m ≡ false
 not_itself m =
     let last : nat_lt m.errors m.errors ≡ false = grind (arith, nat_tests) in
     tied m.id m.id _ refl (tied m.start m.start _ refl last)
@@ -93,46 +93,46 @@ not_itself m =
 -- no match comes before one that stands in front of it
 abbrev pub InOrder : List Match → Type 0
 InOrder [] = ⊤
-InOrder (m ∷ ms) = All (λ n. comes_before n m ≡ false) ms × InOrder ms
+InOrder (m ∷ ms) = All (λ n. is_before n m ≡ false) ms × InOrder ms
 
-in_order-append : (xs ys : List Match) → InOrder xs → InOrder ys → All (λ m. All (λ n. comes_before n m ≡ false) ys) xs → InOrder (xs ++ ys)
+in_order-append : (xs ys : List Match) → InOrder xs → InOrder ys → All (λ m. All (λ n. is_before n m ≡ false) ys) xs → InOrder (xs ++ ys)
 in_order-append [] ys first second apart = second
 in_order-append (x ∷ xs) ys first second apart =
-    let P : Match → Type 0 = λ m. All (λ n. comes_before n m ≡ false) ys in
-    (All-append (λ n. comes_before n x ≡ false) xs ys first.0 (All-head P x xs apart), in_order-append xs ys first.1 second (All-tail P x xs apart))
+    let P : Match → Type 0 = λ m. All (λ n. is_before n m ≡ false) ys in
+    (All-append (λ n. is_before n x ≡ false) xs ys first.0 (All-head P x xs apart), in_order-append xs ys first.1 second (All-tail P x xs apart))
 
-sorted_tail : (x : Match) (xs : List Match) → IsInOrder (x ∷ xs) → IsInOrder xs
+sorted_tail : (x : Match) (xs : List Match) → AreSorted (x ∷ xs) → AreSorted xs
 sorted_tail x xs up = λ k d low high.
     let next : k + 1 + 1 ≡ suc (k + 1) = omega arith in
     let here : k + 1 ≡ suc k = omega arith in
-    ap (λ m. comes_before m (get_or xs k d)) (sym (ap (λ n. get_or (x ∷ xs) n d) next))
-    ∙ ap (comes_before (get_or (x ∷ xs) (k + 1 + 1) d)) (sym (ap (λ n. get_or (x ∷ xs) n d) here))
+    ap (λ m. is_before m (get_or xs k d)) (sym (ap (λ n. get_or (x ∷ xs) n d) next))
+    ∙ ap (is_before (get_or (x ∷ xs) (k + 1 + 1) d)) (sym (ap (λ n. get_or (x ∷ xs) n d) here))
     ∙ up (k + 1) d (omega arith) (omega arith)
 
-pub in_order-from_sorted : (xs : List Match) → IsInOrder xs → InOrder xs
+pub in_order-from_sorted : (xs : List Match) → AreSorted xs → InOrder xs
 in_order-from_sorted [] up = tt
 in_order-from_sorted (x ∷ xs) up =
-    (λ k d low. sorted_far comes_before order_of_matches (x ∷ xs) up 0 (suc k) d (omega arith) (omega arith), in_order-from_sorted xs (sorted_tail x xs up))
+    (λ k d low. sorted_far is_before order_of_matches (x ∷ xs) up 0 (suc k) d (omega arith) (omega arith), in_order-from_sorted xs (sorted_tail x xs up))
 
 -- how many come before a match
 abbrev before : Match → Match → ℕ
-before m n = cond (comes_before n m) 1 0
+before m n = cond (is_before n m) 1 0
 
-none_before : (m : Match) (ms : List Match) → All (λ n. comes_before n m ≡ false) ms → sum_by (before m) ms ≡ 0
+none_before : (m : Match) (ms : List Match) → All (λ n. is_before n m ≡ false) ms → sum_by (before m) ms ≡ 0
 none_before m [] none = refl
 none_before m (n ∷ ms) none =
-    let first : before m n ≡ 0 = ap (λ b. cond b 1 0) (All-head (λ n. comes_before n m ≡ false) n ms none) in
-    omega (arith, sum_by-cons (before m) n ms, first, none_before m ms (All-tail (λ n. comes_before n m ≡ false) n ms none))
+    let first : before m n ≡ 0 = ap (λ b. cond b 1 0) (All-head (λ n. is_before n m ≡ false) n ms none) in
+    omega (arith, sum_by-cons (before m) n ms, first, none_before m ms (All-tail (λ n. is_before n m ≡ false) n ms none))
 
 is_not_before : (b : Bool) (n : ℕ) → n ≡ cond b 1 0 → n ≡ 0 → b ≡ false
 is_not_before true n is none = absurd (omega (arith, is, none))
 is_not_before false n is none = refl
 
 -- the first of a list in order comes before none of a list that has the same
-first_is_least : (x y : Match) (xs ys : List Match) → HaveSame (x ∷ xs) (y ∷ ys) → InOrder (x ∷ xs) → comes_before y x ≡ false
+first_is_least : (x y : Match) (xs ys : List Match) → HaveSame (x ∷ xs) (y ∷ ys) → InOrder (x ∷ xs) → is_before y x ≡ false
 first_is_least x y xs ys same first =
     let itself : before x x ≡ 0 = ap (λ b. cond b 1 0) (not_itself x) in
-    is_not_before (comes_before y x) (before x y) refl (omega (arith, same (before x), sum_by-cons (before x) x xs, sum_by-cons (before x) y ys, itself, none_before x xs first.0))
+    is_not_before (is_before y x) (before x y) refl (omega (arith, same (before x), sum_by-cons (before x) x xs, sum_by-cons (before x) y ys, itself, none_before x xs first.0))
 
 -- two lists in order that have the same matches are the same list
 pub same_in_order : (xs ys : List Match) → HaveSame xs ys → InOrder xs → InOrder ys → xs ≡ ys
@@ -180,8 +180,8 @@ starts_rise query song at a (suc n) =
       | inl none ↦ subst P (sym none) (rest.0, above_a)
       | inr some ↦
           let m : Match = record { id = song.0; start = a; errors = errors_of query.prints (at a) } in
-          let first : All (λ n. comes_before n m ≡ false) later =
-          All-weaker (IsFrom song (a + 1)) (λ n. comes_before n m ≡ false) (λ n is. tied n.id m.id _ is.0 (above n.start m.start _ (omega (arith, is.1)))) later rest.1 in
+          let first : All (λ n. is_before n m ≡ false) later =
+          All-weaker (IsFrom song (a + 1)) (λ n. is_before n m ≡ false) (λ n is. tied n.id m.id _ is.0 (above n.start m.start _ (omega (arith, is.1)))) later rest.1 in
           subst P (sym some) ((first, rest.0), All-cons (IsFrom song a) m later (refl, omega arith) above_a)
     ]
 
@@ -205,8 +205,8 @@ matches_in_order query [] rising = tt
 matches_in_order query (song ∷ songs) rising =
     let higher = ids_above query songs song.0 rising.0 in
     in_order-append (matches_of_song query song) (matches query songs) (song_rises query song).0 (matches_in_order query songs rising.1)
-    (All-weaker (IsFrom song 0) (λ m. All (λ n. comes_before n m ≡ false) (matches query songs))
-    (λ m is. All-weaker (λ (n : Match). song.0 < n.id) (λ n. comes_before n m ≡ false) (λ n id. above n.id m.id _ (omega (arith, id, is.0))) (matches query songs) higher)
+    (All-weaker (IsFrom song 0) (λ m. All (λ n. is_before n m ≡ false) (matches query songs))
+    (λ m is. All-weaker (λ (n : Match). song.0 < n.id) (λ n. is_before n m ≡ false) (λ n id. above n.id m.id _ (omega (arith, id, is.0))) (matches query songs) higher)
     (matches_of_song query song) (song_rises query song).1)
 
 -- ---- no more matches than words

@@ -9,7 +9,7 @@ use Rattle.std.proofs.lemmas.List.Elements.{All-nil, All-cons, All-head, All-tai
 use Rattle.std.proofs.Math.ListN as lists
 use Rattle.hk_spec_matching.specs.Catalogue.{Song}
 use Rattle.hk_spec_matching.specs.Occurrences.{Occurrence, occurrences, occurrences_in, occurrences_of}
-use Rattle.hk_table.specs.Store.{Store, Track, song_at}
+use Rattle.hk_table.specs.Store.{Store, SongWithId, song_at}
 use Rattle.hk_table.specs.Index.{AreOnce, ArePlaces, StandsAt, index_of, slot_at, words_in}
 use Rattle.hk_table.specs.declared.place.Place.{Place}
 use Rattle.hk_catalogue.specs.Entries.{AreAbove, AreRising}
@@ -114,7 +114,7 @@ all_above store word id [] above held = All-nil (IsAbove store id)
 all_above store word id (e ∷ index) above held =
     All-append (IsAbove store id) (places_by store word e) (places_in store word index)
     (All-weaker (IsIn e.1 0) (IsAbove store id)
-    (λ p is. (e.0, ap (λ slot. option_map (λ (track : Track). track.id) (song_at store slot)) is.0 ∙ All-head (IsHeld store) e index held, above.0))
+    (λ p is. (e.0, ap (λ slot. option_map (λ (track : SongWithId). track.id) (song_at store slot)) is.0 ∙ All-head (IsHeld store) e index held, above.0))
     (places_by store word e) (all_in e.1 word 0 (words_at store e.1)))
     (all_above store word id index above.1 (All-tail (IsHeld store) e index held))
 
@@ -129,16 +129,16 @@ once_in_all store word (e ∷ index) rising held =
     (λ q higher same.
     let slots : e.1 ≡ q.slot = sym is.0 ∙ ap (λ (p : Place). p.slot) same in
     let ids : Some e.0 ≡ Some higher.0 =
-    sym (All-head (IsHeld store) e index held) ∙ ap (λ slot. option_map (λ (track : Track). track.id) (song_at store slot)) slots ∙ higher.1 in
+    sym (All-head (IsHeld store) e index held) ∙ ap (λ slot. option_map (λ (track : SongWithId). track.id) (song_at store slot)) slots ∙ higher.1 in
     omega (arith, same_Some e.0 higher.0 ids, higher.2)) rest others)
     (places_by store word e) (all_in e.1 word 0 (words_at store e.1)))
 
 -- the words of a slot, as an index has them
 words_are : (store : Store) (slot : ℕ) → words_in (slot_at (index_of store) slot) ≡ words_at store slot
 words_are store slot =
-    let words : Option Track → Option (List ℕ) = option_map (λ (track : Track). track.words) in
+    let words : Option SongWithId → Option (List ℕ) = option_map (λ (track : SongWithId). track.words) in
     ap words_in (lists.get_or-map words store.slots slot None)
-    ∙ elim (song_at store slot) as (λ o. words_in (words o) ≡ option_map_or (λ (track : Track). track.words) o []) [ Some track ↦ refl | None ↦ refl ]
+    ∙ elim (song_at store slot) as (λ o. words_in (words o) ≡ option_map_or (λ (track : SongWithId). track.words) o []) [ Some track ↦ refl | None ↦ refl ]
 
 stands_are : (store : Store) (word : ℕ) (p : Place) → slice_get (words_at store p.slot) p.pos ≡ Some word → StandsAt (index_of store) word p
 stands_are store word p there = ap (λ words. slice_get words p.pos) (words_are store p.slot) ∙ there
@@ -162,13 +162,13 @@ contains-flat_map f (z ∷ xs) x y (suc k, low, is) there =
     Contains-append_right (f z) (flat_map f xs) y (contains-flat_map f xs x y (k, omega (arith, low), is) there)
 
 -- a slot in which a word stands has a song
-has_song : (store : Store) (slot pos word : ℕ) → slice_get (words_at store slot) pos ≡ Some word → (track : Track) × (song_at store slot ≡ Some track)
+has_song : (store : Store) (slot pos word : ℕ) → slice_get (words_at store slot) pos ≡ Some word → (track : SongWithId) × (song_at store slot ≡ Some track)
 has_song store slot pos word there =
-    let go : (o : Option Track) → song_at store slot ≡ o → (track : Track) × (song_at store slot ≡ Some track) = λ o.
-    elim o as (λ o. song_at store slot ≡ o → (track : Track) × (song_at store slot ≡ Some track)) [
+    let go : (o : Option SongWithId) → song_at store slot ≡ o → (track : SongWithId) × (song_at store slot ≡ Some track) = λ o.
+    elim o as (λ o. song_at store slot ≡ o → (track : SongWithId) × (song_at store slot ≡ Some track)) [
       | Some track ↦ λ is. (track, is)
       | None ↦ λ is.
-          let none : None ≡ Some word = sym (ap (λ o. slice_get (option_map_or (λ (track : Track). track.words) o []) pos) is) ∙ there in
+          let none : None ≡ Some word = sym (ap (λ o. slice_get (option_map_or (λ (track : SongWithId). track.words) o []) pos) is) ∙ there in
           absurd (none-some word none)
     ] in
     go (song_at store slot) refl
@@ -191,9 +191,9 @@ occurrence_at store word place = record { song = entry_at store place.slot; posi
 -- what a sum has at an entry of an index, and what it has at the entry's song
 entry_is : (store : Store) (e : ℕ × ℕ) → IsHeld store e → entry_at store e.1 ≡ (e.0, song_of (words_at store e.1))
 entry_is store e held =
-    let words : Option Track → List ℕ = λ o. option_map_or (λ (track : Track). track.words) o [] in
-    let go : (o : Option Track) → option_map (λ (track : Track). track.id) o ≡ Some e.0 → option_map_or entry_of o (0, song_of []) ≡ (e.0, song_of (words o)) = λ o.
-    elim o as (λ o. option_map (λ (track : Track). track.id) o ≡ Some e.0 → option_map_or entry_of o (0, song_of []) ≡ (e.0, song_of (words o))) [
+    let words : Option SongWithId → List ℕ = λ o. option_map_or (λ (track : SongWithId). track.words) o [] in
+    let go : (o : Option SongWithId) → option_map (λ (track : SongWithId). track.id) o ≡ Some e.0 → option_map_or entry_of o (0, song_of []) ≡ (e.0, song_of (words o)) = λ o.
+    elim o as (λ o. option_map (λ (track : SongWithId). track.id) o ≡ Some e.0 → option_map_or entry_of o (0, song_of []) ≡ (e.0, song_of (words o))) [
       | Some track ↦ λ is. ap (λ id. (id, song_of track.words)) (same_Some track.id e.0 is)
       | None ↦ λ is. absurd (none-some e.0 is)
     ] in

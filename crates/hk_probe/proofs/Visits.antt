@@ -19,10 +19,10 @@ use Rattle.hk_spec_matching.specs.Matching.{Query, matches}
 use Rattle.hk_spec_matching.specs.Buckets.{bucket_of}
 use Rattle.hk_spec_matching.specs.Cost.{all_words, subsets, looked_up, cost}
 use Rattle.hk_spec_matching.specs.Occurrences.{Occurrence, occurrences, occurrences_in, occurrences_of}
-use Rattle.hk_table.specs.Store.{Store, Track, song_at}
+use Rattle.hk_table.specs.Store.{Store, SongWithId, song_at}
 use Rattle.hk_table.specs.Index.{ArePlaces, index_of}
 use Rattle.hk_table.specs.declared.place.Place.{Place}
-use Rattle.hk_block.specs.Room.{IsInOrder}
+use Rattle.hk_block.specs.Room.{AreSorted}
 use Rattle.hk_catalogue.specs.Entries.{AreAbove, AreRising}
 use Rattle.hk_catalogue.specs.Shelves.{Shelves, entry_of, song_of, songs_of, songs_in}
 use Rattle.hk_catalogue.specs.CatalogueInside.{IsShelved}
@@ -42,24 +42,24 @@ nothing_there query store j place some empty =
     sym (ap (λ o. found query j (option_map_or entry_of o (0, song_of [])) place.pos) empty
     ∙ found-outside query j (0, song_of []) place.pos (fits-late query j (0, song_of []) place.pos (omega arith)))
 
-at_song : (query : Query) (store : Store) (j : ℕ) (place : Place) (track : Track) → song_at store place.slot ≡ Some track
+at_song : (query : Query) (store : Store) (j : ℕ) (place : Place) (track : SongWithId) → song_at store place.slot ≡ Some track
     → found_at query store j place ≡ found query j (entry_of track) place.pos
 at_song query store j place track there = ap (λ o. found query j (option_map_or entry_of o (0, song_of [])) place.pos) there
 
 -- a block that begins before its song isn't there
-pub begins_before : (query : Query) (store : Store) (j : ℕ) (place : Place) (track : Track) → song_at store place.slot ≡ Some track
+pub begins_before : (query : Query) (store : Store) (j : ℕ) (place : Place) (track : SongWithId) → song_at store place.slot ≡ Some track
     → place.pos < j → None ≡ found_at query store j place
 begins_before query store j place track there early =
     sym (at_song query store j place track there ∙ found-outside query j (entry_of track) place.pos (fits-early query j (entry_of track) place.pos early))
 
 -- nor is one that ends behind it
-pub ends_behind : (query : Query) (store : Store) (j : ℕ) (place : Place) (track : Track) → song_at store place.slot ≡ Some track
+pub ends_behind : (query : Query) (store : Store) (j : ℕ) (place : Place) (track : SongWithId) → song_at store place.slot ≡ Some track
     → length track.words < place.pos - j + length query.prints → None ≡ found_at query store j place
 ends_behind query store j place track there late =
     sym (at_song query store j place track there ∙ found-outside query j (entry_of track) place.pos (fits-late query j (entry_of track) place.pos late))
 
 -- one that fits is found by its words
-pub by_words : (query : Query) (store : Store) (j : ℕ) (place : Place) (track : Track) (start : ℕ) (words : List ℕ) (result : Option Match) (id : ℕ)
+pub by_words : (query : Query) (store : Store) (j : ℕ) (place : Place) (track : SongWithId) (start : ℕ) (words : List ℕ) (result : Option Match) (id : ℕ)
     → song_at store place.slot ≡ Some track → place.pos ≡ j + start → start + length query.prints ≤ length track.words
     → words ≡ window (length query.prints) 1 track.words start → id ≡ track.id
     → result ≡ first_match_at query j (id, song_of track.words) (start, words) → result ≡ found_at query store j place
@@ -252,7 +252,7 @@ print_fits query songs j room old low before fits =
 
 -- what all prints gave, in order, is the list of matches
 pub all_matches : (query : Query) (songs : Songs) (put ordered : List Match) (n : ℕ) → length query.prints ≤ n → AreRising songs
-    → HaveSame put (flat_map (found_by query songs) (take n (enumerate_from 0 query.prints))) → IsPermutation put ordered → IsInOrder ordered
+    → HaveSame put (flat_map (found_by query songs) (take n (enumerate_from 0 query.prints))) → IsPermutation put ordered → AreSorted ordered
     → ordered ≡ matches query songs
 unfolding found_in
 all_matches query songs put ordered n whole rising before same up =

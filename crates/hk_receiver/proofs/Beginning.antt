@@ -9,7 +9,7 @@ use Rattle.hk_spec_streams.specs.Blocks.{Setting, blocks}
 use Rattle.hk_station_wire.proofs.LastItems.{hello_packet, hello_segments}
 use Rattle.hk_receiver.specs.declared.segment.Segment.{Segment}
 use Rattle.hk_receiver.specs.Segment.{HasBytes}
-use Rattle.hk_receiver.specs.Kept.{Holds}
+use Rattle.hk_receiver.specs.Kept.{HasSegments}
 use Rattle.hk_receiver.proofs.Blocks.{none_yet}
 
 pub no_fault_yet : (limit : ℕ) → station_fault limit [] ≡ None
@@ -19,7 +19,7 @@ no_fault_yet limit = refl
 no_gap : gap_is_open [] ≡ false
 no_gap = ap (λ packet. (slice_index packet 0 == 3) && nat_lt (length packet) 3) (hello_packet [] (omega arith))
 
-pub holds_nothing : (s : Setting) (segment : Segment) → segment.number ≡ 0 → HasBytes s (record { channels = 0; factor = 1 }) segment [] → Holds s segment []
+pub holds_nothing : (s : Setting) (segment : Segment) → segment.number ≡ 0 → HasBytes s (record { channels = 0; factor = 1 }) segment [] → HasSegments s segment []
 holds_nothing s segment first has = record {
   before = [];
   bytes = [];

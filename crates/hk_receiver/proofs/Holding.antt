@@ -9,7 +9,7 @@ use Rattle.hk_spec_streams.specs.Blocks.{Setting, Block, blocks, blocks_of_segme
 use Rattle.hk_station_wire.specs.Says.{heard_form, GainsByte, KeepsSegments, BeginsGap, PartOfPrint, SaysNothing, SaysHello, SaysGap}
 use Rattle.hk_receiver.specs.declared.segment.Segment.{Segment}
 use Rattle.hk_receiver.specs.Segment.{HasBytes, Gains, prints_by, block_in}
-use Rattle.hk_receiver.specs.Kept.{Holds}
+use Rattle.hk_receiver.specs.Kept.{HasSegments}
 use Rattle.hk_receiver.proofs.Blocks.{same_blocks, begun_blocks, grown_blocks, none_yet}
 use Rattle.hk_receiver.proofs.Segments.{gains_part}
 
@@ -26,7 +26,7 @@ same_last (a ∷ xs) (b ∷ ys) x y is =
     let found = same_last xs ys x y rest in
     (ap (λ z. z ∷ xs) first ∙ ap (λ zs. b ∷ zs) found.0, found.1)
 
-module _ (s : Setting) (full : s.analysis ≡ full_analysis) (some : 0 < s.block_size) (text : List ℕ) (b : ℕ) (segment : Segment) (h : Holds s segment text) where
+module _ (s : Setting) (full : s.analysis ≡ full_analysis) (some : 0 < s.block_size) (text : List ℕ) (b : ℕ) (segment : Segment) (h : HasSegments s segment text) where
   abbrev t : List ℕ
   t = text ++ b ∷ []
 
@@ -35,7 +35,7 @@ module _ (s : Setting) (full : s.analysis ≡ full_analysis) (some : 0 < s.block
 
   -- what is held, and what the byte adds to the blocks
   pub record Step (next : Segment) (more : List Block) : Type 0 where
-    pub holds : Holds s next t
+    pub holds : HasSegments s next t
     pub more_blocks : blocks s t ≡ blocks s text ++ more
 
   -- no segment grew, and no gap began or ended

@@ -12,7 +12,7 @@ use Rattle.hk_block.specs.Ring as rings
 use Rattle.hk_receiver.specs.Segment.{block_in}
 
 module _ (s : Setting) (n : ℕ) (old new : Ring) (p : Print) (prints : List Print) (size : s.block_size ≡ BLOCK_SIZE) (hop : old.hop ≡ s.hop)
-    (takes : Takes old p new) (adds : AddsBlock old p new) (places : PlacesBlock old p new) (has : rings.HasTaken old prints) where
+    (takes : Takes old p new) (adds : AddsBlock old p new) (places : PlacesBlock old p new) (has : rings.HasLastPrints old prints) where
   abbrev block_of : ℕ × List Print → Block
   block_of w = record { segment = n; first = s.hop * w.0; prints = w.1 }
 

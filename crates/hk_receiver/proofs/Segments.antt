@@ -51,7 +51,7 @@ module _ (s : Setting) (form : Form) (old : Segment) (bytes : List ℕ) (has : H
         → prints_by s form (bytes ++ b ∷ []) ≡ prints_by s form bytes ++ option_to_list given
     heard given is = of_front (bytes ++ b ∷ []) ∙ is ∙ ap (λ ps. ps ++ option_to_list given) (sym (of_front bytes))
 
-    pub hears_on : (new : Segment) → KeepsRules old.front new.front → fronts.HasTaken new.front (bytes ++ b ∷ []) → Hears s form new (bytes ++ b ∷ [])
+    pub hears_on : (new : Segment) → KeepsRules old.front new.front → fronts.HasAnalysed new.front (bytes ++ b ∷ []) → Hears s form new (bytes ++ b ∷ [])
     hears_on new keeps taken = record {
       channels = keeps.1.0 ∙ (has.hears sound).channels;
       factor = keeps.1.1 ∙ (has.hears sound).factor;
@@ -63,7 +63,7 @@ module _ (s : Setting) (form : Form) (old : Segment) (bytes : List ℕ) (has : H
       → ((form.channels == 0) ≡ false → Hears s form new (bytes ++ b ∷ [])) → HasBytes s form new (bytes ++ b ∷ [])
   goes_on new same_ring same_flips same hears = record {
     set = still_for s old.front.flips old.ring.hop has.set same_flips (ap (λ ring. ring.hop) same_ring);
-    prints = subst (λ ring. rings.HasTaken ring (prints_by s form (bytes ++ b ∷ []))) (sym same_ring) (subst (rings.HasTaken old.ring) (sym same) has.prints);
+    prints = subst (λ ring. rings.HasLastPrints ring (prints_by s form (bytes ++ b ∷ []))) (sym same_ring) (subst (rings.HasLastPrints old.ring) (sym same) has.prints);
     hears = hears;
   }
 
@@ -81,7 +81,7 @@ module _ (s : Setting) (form : Form) (old : Segment) (bytes : List ℕ) (has : H
   gains_print new p full same_number grown takes adds places is same_flips hears = record {
     goes_on = record {
       set = still_for s old.front.flips old.ring.hop has.set same_flips takes.0;
-      prints = subst (rings.HasTaken new.ring) (sym grown) (takes.1 prints has.prints);
+      prints = subst (rings.HasLastPrints new.ring) (sym grown) (takes.1 prints has.prints);
       hears = hears;
     };
     more_blocks = ap (blocks_of_segment s old.number) grown
@@ -91,16 +91,16 @@ module _ (s : Setting) (form : Form) (old : Segment) (bytes : List ℕ) (has : H
   }
 
 -- no byte yet, in this form
-pub empty : (s : Setting) (form : Form) (segment : Segment) → IsFor s segment.front.flips segment.ring.hop → rings.HasTaken segment.ring []
+pub empty : (s : Setting) (form : Form) (segment : Segment) → IsFor s segment.front.flips segment.ring.hop → rings.HasLastPrints segment.ring []
     → ((form.channels == 0) ≡ false → Hears s form segment []) → HasBytes s form segment []
 empty s form segment set none hears = record {
   set = set;
-  prints = subst (rings.HasTaken segment.ring) (sym (none_by s form set.analysis)) none;
+  prints = subst (rings.HasLastPrints segment.ring) (sym (none_by s form set.analysis)) none;
   hears = hears;
 }
 
-pub no_print : (s : Setting) (form : Form) (segment : Segment) → HasBytes s form segment [] → rings.HasTaken segment.ring []
-no_print s form segment has = subst (rings.HasTaken segment.ring) (none_by s form has.set.analysis) has.prints
+pub no_print : (s : Setting) (form : Form) (segment : Segment) → HasBytes s form segment [] → rings.HasLastPrints segment.ring []
+no_print s form segment has = subst (rings.HasLastPrints segment.ring) (none_by s form has.set.analysis) has.prints
 
 -- prints that are sent are taken as they are
 pub as_sent : (s : Setting) (form : Form) → (form.channels == 0) ≡ true → (bytes : List ℕ) → prints_by s form bytes ≡ sent_prints bytes

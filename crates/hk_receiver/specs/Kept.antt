@@ -23,7 +23,7 @@ pub record IsSetTo (rules : Rules) (flips hop limit : ℕ) : Type 0 where
   pub limit_is : rules.bytes ≡ limit
 
 -- What is kept of the text's segments: the number and the bytes of the last one. In a gap that is open the next segment has begun, and has no byte.
-pub record Holds (s : Setting) (segment : Segment) (text : List ℕ) : Type 0 where
+pub record HasSegments (s : Setting) (segment : Segment) (text : List ℕ) : Type 0 where
   pub before : List (List ℕ)
   pub bytes : List ℕ
   pub are : segments text ≡ before ++ bytes ∷ (if gap_is_open text then [] ∷ [] else [])

@@ -9,7 +9,7 @@ use Rattle.hk_receiver.specs.declared.receiver.Receiver.{Receiver}
 use Rattle.hk_receiver.specs.declared.receiver.Received.{Received}
 use Rattle.hk_receiver.specs.declared.receiver.Received.TheVariants as received
 use Rattle.hk_receiver.specs.Segment.{block_in}
-use Rattle.hk_receiver.specs.Kept.{Holds}
+use Rattle.hk_receiver.specs.Kept.{HasSegments}
 
 -- fences that end at a place
 abbrev pub fences_at : ℕ → List ℕ → List Fence
@@ -22,15 +22,15 @@ abbrev pub segment_of : Receiver → ℕ
 segment_of receiver = receiver.segment.number
 
 -- how many blocks the stream has brought
-abbrev pub blocks_of : Receiver → ℕ
-blocks_of receiver = receiver.blocks
+abbrev pub block_count : Receiver → ℕ
+block_count receiver = receiver.blocks
 
 -- The receiver has received this text, which has no fault; it was made for these rules.
 pub record HasReceived (rules : Rules) (receiver : Receiver) (text : List ℕ) : Type 0 where
   pub limit : wires.limit_of receiver.wire ≡ rules.bytes
   pub bytes : wires.HasTaken receiver.wire text
   pub no_fault : station_fault rules.bytes text ≡ None
-  pub holds : Holds rules.setting receiver.segment text
+  pub holds : HasSegments rules.setting receiver.segment text
   pub blocks_are : receiver.blocks ≡ length (blocks rules.setting text)
 
 -- a fact of each text that the receiver has received

@@ -13,8 +13,8 @@ use Rattle.hk_receiver.specs.declared.segment.Segment.{Segment}
 abbrev pub ring_in : Segment → Ring
 ring_in segment = segment.ring
 
-abbrev pub number_of : Segment → ℕ
-number_of segment = segment.number
+abbrev pub segment_number : Segment → ℕ
+segment_number segment = segment.number
 
 -- Blocks of 256 prints, sound analysed in full, and these flips and hop.
 pub record IsFor (s : Setting) (flips hop : ℕ) : Type 0 where
@@ -35,12 +35,12 @@ block_in n ring = record { segment = n; first = first_word ring; prints = ring.l
 pub record Hears (s : Setting) (form : Form) (segment : Segment) (bytes : List ℕ) : Type 0 where
   pub channels : fronts.channels_of segment.front ≡ form.channels
   pub factor : fronts.factor_of segment.front ≡ form.factor
-  pub taken : fronts.HasTaken segment.front bytes
+  pub taken : fronts.HasAnalysed segment.front bytes
 
 -- The segment has taken these bytes of a stream of this form: the ring has their prints, and the front hears them where they are sound.
 pub record HasBytes (s : Setting) (form : Form) (segment : Segment) (bytes : List ℕ) : Type 0 where
   pub set : IsFor s segment.front.flips segment.ring.hop
-  pub prints : rings.HasTaken segment.ring (prints_by s form bytes)
+  pub prints : rings.HasLastPrints segment.ring (prints_by s form bytes)
   pub hears : (form.channels == 0) ≡ false → Hears s form segment bytes
 
 -- One byte more: the segment goes on, and its blocks gain the one that the byte completes.

@@ -3,9 +3,9 @@ ghost use Rattle.std.specs.Prelude.{◌≡◌, ◌≤◌, ◌<◌, ◌+◌, ◌-
 ghost use Rattle.std.specs.Result.{result_err};
 ghost use Rattle.hk_spec_streams.specs.Station.{station_wrong};
 ghost use Rattle.hk_spec_settings.specs.Settings.{Rules};
-ghost use Rattle.hk_station_wire.specs.Taken.{limit_of, taken_of};
+ghost use Rattle.hk_station_wire.specs.Taken.{limit_of, count_taken};
 ghost use Rattle.hk_block.specs.Ring.{is_full};
-ghost use Rattle.hk_receiver.specs.Segment.{ring_in, number_of};
+ghost use Rattle.hk_receiver.specs.Segment.{ring_in, segment_number};
 ghost use Rattle.hk_receiver.specs.Kept.{MOST_BYTES, IsSetTo};
 
 use crate::segment::Segment;
@@ -31,14 +31,14 @@ pub struct Receiver {
     segment: Segment,
     blocks: u64,
     ghost limit: { limit_of wire ≤ MOST_BYTES },
-    ghost within: { taken_of wire ≤ limit_of wire },
-    ghost fewer_prints: { (ring_in segment).count ≤ taken_of wire },
-    ghost fewer_segments: { number_of segment ≤ taken_of wire },
-    ghost fewer_blocks: { blocks ≤ taken_of wire },
+    ghost within: { count_taken wire ≤ limit_of wire },
+    ghost fewer_prints: { (ring_in segment).count ≤ count_taken wire },
+    ghost fewer_segments: { segment_number segment ≤ count_taken wire },
+    ghost fewer_blocks: { blocks ≤ count_taken wire },
 }
 
 impl Receiver {
-    ghost use Rattle.hk_receiver.specs.Received.{HasReceived, Tells, ForEachText, ring_of, segment_of, blocks_of};
+    ghost use Rattle.hk_receiver.specs.Received.{HasReceived, Tells, ForEachText, ring_of, segment_of, block_count};
 
     /// A receiver before its first byte, of a stream of at most `limit` bytes. `flips` bits of a print of sound are weak,
     /// and blocks begin `hop` prints apart. It takes all memory that it needs.
@@ -60,9 +60,9 @@ impl Receiver {
     pub fn push(&mut self, byte: u8) -> Received
         ensures tells { ForEachText self.old (λ rules text. Tells result rules text byte self.new) }
         ensures full { result ≡ Received.Block → IsTrue (is_full (ring_of self.new)) }
-        ensures counts { result ≡ Received.Block → blocks_of self.old < blocks_of self.new }
-        ensures few { result ≡ Received.Block → blocks_of self.new ≤ MOST_BYTES }
-        ensures never_falls { blocks_of self.old ≤ blocks_of self.new }
+        ensures counts { result ≡ Received.Block → block_count self.old < block_count self.new }
+        ensures few { result ≡ Received.Block → block_count self.new ≤ MOST_BYTES }
+        ensures never_falls { block_count self.old ≤ block_count self.new }
     {
         match self.wire.push(byte) {
             Item::Nothing => Received::Nothing,

@@ -20,14 +20,14 @@ pub struct Segment {
 }
 
 impl Segment {
-    ghost use Rattle.hk_receiver.specs.Segment.{IsFor, HasBytes, Gains, ring_in, number_of};
+    ghost use Rattle.hk_receiver.specs.Segment.{IsFor, HasBytes, Gains, ring_in, segment_number};
 
     /// The first segment of a stream, without a byte. It takes all memory that it needs.
     pub fn new(alloc: Global, flips: u32, hop: u32) -> Result<Segment, NoMemory>
         requires some { 1 ≤ hop }
         requires most { hop ≤ 256 }
         ensures empty { IfOk result (λ segment. (s : Setting) → IsFor s flips hop → HasBytes s (record { channels = 0; factor = 1 }) segment []) }
-        ensures first { IfOk result (λ segment. number_of segment ≡ 0) }
+        ensures first { IfOk result (λ segment. segment_number segment ≡ 0) }
         ensures none { IfOk result (λ segment. (ring_in segment).count ≡ 0) }
     {
         Ok(Segment {
@@ -44,7 +44,7 @@ impl Segment {
         requires some_factor { 1 ≤ form.factor }
         requires small_factor { form.factor ≤ 8 }
         ensures empty { (s : Setting) (before : Form) → HasBytes s before self.old [] → HasBytes s form self.new [] }
-        ensures same_number { number_of self.new ≡ number_of self.old }
+        ensures same_number { segment_number self.new ≡ segment_number self.old }
         ensures same_ring { ring_in self.new ≡ ring_in self.old }
     {
         if form.channels != 0 {
@@ -57,7 +57,7 @@ impl Segment {
         requires fewer { (ring_in self.old).count < MOST_PRINTS }
         ensures gains { (s : Setting) (form : Form) (bytes : List ℕ) → (form.channels == 0) ≡ false → HasBytes s form self.old bytes
             → Gains s form self.old bytes byte result self.new }
-        ensures same_number { number_of self.new ≡ number_of self.old }
+        ensures same_number { segment_number self.new ≡ segment_number self.old }
         ensures few { (ring_in self.new).count ≤ (ring_in self.old).count + 1 }
         ensures full { IsTrue result → IsTrue (is_full (ring_in self.new)) }
     {
@@ -73,7 +73,7 @@ impl Segment {
         ensures gains { (s : Setting) (form : Form) (bytes : List ℕ) (byte : ℕ) → (form.channels == 0) ≡ true
             → sent_prints (bytes ++ byte ∷ []) ≡ sent_prints bytes ++ print ∷ [] → HasBytes s form self.old bytes
             → Gains s form self.old bytes byte result self.new }
-        ensures same_number { number_of self.new ≡ number_of self.old }
+        ensures same_number { segment_number self.new ≡ segment_number self.old }
         ensures few { (ring_in self.new).count ≤ (ring_in self.old).count + 1 }
         ensures full { IsTrue result → IsTrue (is_full (ring_in self.new)) }
     {
@@ -82,9 +82,9 @@ impl Segment {
 
     /// A gap ends: the next segment begins, in the same form.
     pub fn end(&mut self)
-        requires { number_of self.old + 1 < 2 ^ 64 }
+        requires { segment_number self.old + 1 < 2 ^ 64 }
         ensures empty { (s : Setting) (form : Form) (bytes : List ℕ) → HasBytes s form self.old bytes → HasBytes s form self.new [] }
-        ensures next { number_of self.new ≡ number_of self.old + 1 }
+        ensures next { segment_number self.new ≡ segment_number self.old + 1 }
         ensures none { (ring_in self.new).count ≡ 0 }
     {
         self.front.gap();
@@ -101,7 +101,7 @@ impl Segment {
 
     /// Its number.
     pub fn number(&self) -> u64
-        ensures { result ≡ number_of self.now }
+        ensures { result ≡ segment_number self.now }
     {
         self.number
     }

@@ -12,7 +12,7 @@ use Rattle.hk_spec_streams.proofs.FirstFault.{fault_of-none}
 use Rattle.hk_spec_streams.proofs.Completed.{completed-more}
 use Rattle.hk_spec_streams.proofs.GrowingRecords.{last_record-append, arrivals-append, open_record-is}
 use Rattle.hk_spec_streams.proofs.OpenPiece.{opened_piece}
-use Rattle.hk_records.specs.Part.{IsPart, arrived, has_bad_head, told}
+use Rattle.hk_records.specs.Part.{IsPart, came_behind, has_bad_head, told}
 use Rattle.hk_records.specs.declared.part.Owner.TheVariants as owners
 use Rattle.hk_records.specs.declared.part.Part.{Part}
 use Rattle.hk_records.specs.declared.part.Part.TheVariants as parts
@@ -60,7 +60,7 @@ met-append stations limit text b =
     let place : n + 1 - 1 - 1 ≡ n - length rest = omega (arith, two, longer) in ap (λ p. BadRecord p) place)
 
 pub came-append : (stations limit : ℕ) (text : List ℕ) (b : ℕ)
-    → came_at stations limit (text ++ b ∷ []) ≡ option_map_or (λ trouble. Bad trouble) (fault_next stations limit (length text) (open_bytes text) b) (arrived (open_bytes text) b)
+    → came_at stations limit (text ++ b ∷ []) ≡ option_map_or (λ trouble. Bad trouble) (fault_next stations limit (length text) (open_bytes text) b) (came_behind (open_bytes text) b)
 came-append stations limit text b =
     ap (λ o. option_map_or (λ trouble. Bad trouble) o (option_map_or told (slice_get (completed arrivals (text ++ b ∷ [])) 0) Head)) (met-append stations limit text b)
     ∙ ap (λ xs. option_map_or (λ trouble. Bad trouble) (fault_next stations limit (length text) (open_bytes text) b) (option_map_or told (slice_get xs 0) Head))
@@ -76,15 +76,15 @@ module _ (stations limit : ℕ) (text : List ℕ) (b : ℕ) where
   pub too_long : limit ≤ length text → came_at stations limit (text ++ b ∷ []) ≡ Bad (TooLong limit)
   unfolding fault_next
   too_long h = came-append stations limit text b
-      ∙ ap (λ t. option_map_or (λ trouble. Bad trouble) (cond t (Some (TooLong limit)) (cond (has_bad_head stations (open_bytes text ++ b ∷ [])) (Some (BadRecord (length text - length (open_bytes text)))) None)) (arrived (open_bytes text) b))
+      ∙ ap (λ t. option_map_or (λ trouble. Bad trouble) (cond t (Some (TooLong limit)) (cond (has_bad_head stations (open_bytes text ++ b ∷ [])) (Some (BadRecord (length text - length (open_bytes text)))) None)) (came_behind (open_bytes text) b))
       (lt_is limit (length text + 1) (omega arith))
 
   pub faulty : length text < limit → has_bad_head stations (open_bytes text ++ b ∷ []) ≡ true → came_at stations limit (text ++ b ∷ []) ≡ Bad (BadRecord (length text - length (open_bytes text)))
   unfolding fault_next
   faulty h bad = came-append stations limit text b
-      ∙ ap (λ t. option_map_or (λ trouble. Bad trouble) (cond t (Some (TooLong limit)) (cond (has_bad_head stations (open_bytes text ++ b ∷ [])) (Some (BadRecord (length text - length (open_bytes text)))) None)) (arrived (open_bytes text) b))
+      ∙ ap (λ t. option_map_or (λ trouble. Bad trouble) (cond t (Some (TooLong limit)) (cond (has_bad_head stations (open_bytes text ++ b ∷ [])) (Some (BadRecord (length text - length (open_bytes text)))) None)) (came_behind (open_bytes text) b))
       (lt_isnt limit (length text + 1) (omega arith))
-      ∙ ap (λ t. option_map_or (λ trouble. Bad trouble) (cond t (Some (BadRecord (length text - length (open_bytes text)))) None) (arrived (open_bytes text) b)) bad
+      ∙ ap (λ t. option_map_or (λ trouble. Bad trouble) (cond t (Some (BadRecord (length text - length (open_bytes text)))) None) (came_behind (open_bytes text) b)) bad
 
   pub no_fault_next : length text < limit → has_bad_head stations (open_bytes text ++ b ∷ []) ≡ false → fault_next stations limit (length text) (open_bytes text) b ≡ None
   unfolding fault_next
@@ -93,9 +93,9 @@ module _ (stations limit : ℕ) (text : List ℕ) (b : ℕ) where
       (lt_isnt limit (length text + 1) (omega arith))
       ∙ ap (λ t. cond t (Some (BadRecord (length text - length (open_bytes text)))) None) good
 
-  pub good : length text < limit → has_bad_head stations (open_bytes text ++ b ∷ []) ≡ false → came_at stations limit (text ++ b ∷ []) ≡ arrived (open_bytes text) b
+  pub good : length text < limit → has_bad_head stations (open_bytes text ++ b ∷ []) ≡ false → came_at stations limit (text ++ b ∷ []) ≡ came_behind (open_bytes text) b
   good h fine = came-append stations limit text b
-      ∙ ap (λ o. option_map_or (λ trouble. Bad trouble) o (arrived (open_bytes text) b)) (no_fault_next h fine)
+      ∙ ap (λ o. option_map_or (λ trouble. Bad trouble) o (came_behind (open_bytes text) b)) (no_fault_next h fine)
 
   pub stays_good : input_fault stations limit text ≡ None → length text < limit → has_bad_head stations (open_bytes text ++ b ∷ []) ≡ false → input_fault stations limit (text ++ b ∷ []) ≡ None
   stays_good before h fine = fault_of-none (input_met stations limit) text b before (met-append stations limit text b ∙ no_fault_next h fine)

@@ -11,17 +11,17 @@ use Rattle.hk_records.specs.declared.reader.Came.{Came}
 use Rattle.hk_records.specs.declared.reader.Came.TheVariants as came
 
 -- a record's head without its length
-abbrev pub head_of : Owner → List ℕ
-head_of owners.Operator = OPERATOR ∷ []
-head_of (owners.Station n) = STATION ∷ n ∷ []
+abbrev pub head_bytes : Owner → List ℕ
+head_bytes owners.Operator = OPERATOR ∷ []
+head_bytes (owners.Station n) = STATION ∷ n ∷ []
 
 -- the open record's bytes, of which a body has at least one to come
 abbrev pub IsPart : Part → List ℕ → Type 0
 IsPart parts.Letter bytes = bytes ≡ []
 IsPart parts.Number bytes = bytes ≡ STATION ∷ []
-IsPart (parts.High owner) bytes = bytes ≡ head_of owner
-IsPart (parts.Low owner high) bytes = bytes ≡ head_of owner ++ high ∷ []
-IsPart (parts.Body owner left) bytes = (high : ℕ) × (low : ℕ) × (payload : List ℕ) × (bytes ≡ head_of owner ++ high ∷ low ∷ payload)
+IsPart (parts.High owner) bytes = bytes ≡ head_bytes owner
+IsPart (parts.Low owner high) bytes = bytes ≡ head_bytes owner ++ high ∷ []
+IsPart (parts.Body owner left) bytes = (high : ℕ) × (low : ℕ) × (payload : List ℕ) × (bytes ≡ head_bytes owner ++ high ∷ low ∷ payload)
     × (length payload + left ≡ from_be_bytes w16 (high ∷ low ∷ [])) × (0 < left)
 
 -- the owner is the operator, or one of so many stations
@@ -30,12 +30,12 @@ IsOneOf stations owners.Operator = ⊤
 IsOneOf stations (owners.Station number) = number < stations
 
 -- the open record's owner is one of them, where it is known by now
-abbrev pub IsKnown : ℕ → Part → Type 0
-IsKnown stations parts.Letter = ⊤
-IsKnown stations parts.Number = ⊤
-IsKnown stations (parts.High owner) = IsOneOf stations owner
-IsKnown stations (parts.Low owner high) = IsOneOf stations owner
-IsKnown stations (parts.Body owner left) = IsOneOf stations owner
+abbrev pub HasOwner : ℕ → Part → Type 0
+HasOwner stations parts.Letter = ⊤
+HasOwner stations parts.Number = ⊤
+HasOwner stations (parts.High owner) = IsOneOf stations owner
+HasOwner stations (parts.Low owner high) = IsOneOf stations owner
+HasOwner stations (parts.Body owner left) = IsOneOf stations owner
 
 -- a byte of a station's stream is one of so many stations'
 abbrev pub IsFor : ℕ → Came → Type 0
@@ -45,8 +45,8 @@ IsFor stations (came.Operator byte) = ⊤
 IsFor stations (came.Bad trouble) = ⊤
 
 -- the same of a record's bytes that may be all of it: then nothing is open
-abbrev pub IsRest : Part → List ℕ → Type 0
-IsRest part bytes = IsPart part (if record_size bytes == length bytes then [] else bytes)
+abbrev pub IsPartUnlessWhole : Part → List ℕ → Type 0
+IsPartUnlessWhole part bytes = IsPart part (if record_size bytes == length bytes then [] else bytes)
 
 -- an arrival as the reader tells it
 abbrev pub told : Arrival → Came
@@ -54,8 +54,8 @@ told (ForStation number byte) = came.Station number byte
 told (ForOperator byte) = came.Operator byte
 
 -- what the byte after an open record's bytes is
-abbrev pub arrived : List ℕ → ℕ → Came
-arrived bytes byte = option_map_or told (slice_get (arrival_after bytes byte) 0) came.Head
+abbrev pub came_behind : List ℕ → ℕ → Came
+came_behind bytes byte = option_map_or told (slice_get (arrival_after bytes byte) 0) came.Head
 
 -- an open record's last byte is a wrong letter, or the number of no station
 abbrev pub has_bad_head : ℕ → List ℕ → Bool

@@ -4,7 +4,7 @@ use Rattle.std.specs.Option.{option_map_or}
 use Rattle.hk_base.specs.declared.plain.Trouble.{Trouble}
 use Rattle.hk_spec_streams.specs.Pieces.{completed}
 use Rattle.hk_spec_streams.specs.Records.{arrivals, input_fault, input_met, input_wrong, open_bytes}
-use Rattle.hk_records.specs.Part.{IsPart, IsKnown, told}
+use Rattle.hk_records.specs.Part.{IsPart, HasOwner, told}
 use Rattle.hk_records.specs.declared.reader.RecordReader.{RecordReader}
 use Rattle.hk_records.specs.declared.reader.Came.{Came}
 use Rattle.hk_records.specs.declared.reader.Came.TheVariants.{Head, Station, Operator, Bad}
@@ -12,12 +12,12 @@ use Rattle.hk_records.specs.declared.reader.Came.TheVariants.{Head, Station, Ope
 abbrev pub stations_of : RecordReader → ℕ
 stations_of reader = reader.stations
 
-abbrev pub limit_of : RecordReader → ℕ
-limit_of reader = reader.limit
+abbrev pub input_limit : RecordReader → ℕ
+input_limit reader = reader.limit
 
 -- the fault that the reader has met
-abbrev pub fault_met : RecordReader → Option Trouble
-fault_met reader = reader.fault
+abbrev pub trouble_met : RecordReader → Option Trouble
+trouble_met reader = reader.fault
 
 -- The reader has read this text, which has no fault: it knows how long it is, where the open record begins, how far that has come, and
 -- whose it is.
@@ -28,7 +28,7 @@ pub record HasRead (reader : RecordReader) (text : List ℕ) : Type 0 where
   pub no_fault : input_fault reader.stations reader.limit text ≡ None
   pub begun : (open_bytes text ≡ [] → ⊥) → reader.begun + length (open_bytes text) ≡ length text
   pub part : IsPart reader.part (open_bytes text)
-  pub known : IsKnown reader.stations reader.part
+  pub known : HasOwner reader.stations reader.part
 
 -- what the last byte of a text is: its fault, what arrives with it, or part of a head
 abbrev pub came_at : ℕ → ℕ → List ℕ → Came

@@ -2,7 +2,7 @@
 ghost use Rattle.std.specs.Prelude.{◌≡◌, ◌+◌, ◌∷◌, ◌++◌, [], ℕ, List, length, false};
 ghost use Rattle.std.specs.Int.{w16, from_be_bytes};
 ghost use Rattle.hk_base.specs.declared.plain.Trouble.{Trouble};
-ghost use Rattle.hk_records.specs.Part.{IsFor, IsKnown, IsOneOf, IsPart, IsRest, arrived, has_bad_head, head_of};
+ghost use Rattle.hk_records.specs.Part.{IsFor, HasOwner, IsOneOf, IsPart, IsPartUnlessWhole, came_behind, has_bad_head, head_bytes};
 
 use crate::reader::Came;
 use byteorder::{BigEndian, ByteOrder};
@@ -52,9 +52,9 @@ pub fn is_faulty(stations: u8, part: Part, byte: u8) -> bool
 
 // What the byte is: a byte of the open record's stream, or part of its head.
 pub fn arrival(part: Part, byte: u8) -> Came
-    ensures known { (stations : ℕ) → IsKnown stations part → IsFor stations result }
+    ensures known { (stations : ℕ) → HasOwner stations part → IsFor stations result }
     ensures good { (trouble : Trouble) → result ≡ Came.Bad trouble → ⊥ }
-    ensures arrived { (bytes : List ℕ) → IsPart part bytes → result ≡ arrived bytes byte }
+    ensures arrived { (bytes : List ℕ) → IsPart part bytes → result ≡ came_behind bytes byte }
 {
     match part {
         Part::Body(Owner::Operator, _) => Came::Operator(byte),
@@ -65,9 +65,9 @@ pub fn arrival(part: Part, byte: u8) -> Came
 
 // What comes after a byte that has no fault.
 pub fn after(stations: u8, part: Part, byte: u8) -> Part
-    ensures known { (bytes : List ℕ) → IsPart part bytes → has_bad_head stations (bytes ++ byte ∷ []) ≡ false → IsKnown stations part → IsKnown stations result }
+    ensures known { (bytes : List ℕ) → IsPart part bytes → has_bad_head stations (bytes ++ byte ∷ []) ≡ false → HasOwner stations part → HasOwner stations result }
     ensures rest { (bytes : List ℕ) → IsPart part bytes → has_bad_head stations (bytes ++ byte ∷ []) ≡ false →
-        IsRest result (bytes ++ byte ∷ []) }
+        IsPartUnlessWhole result (bytes ++ byte ∷ []) }
 {
     match part {
         Part::Letter if byte == b'S' => Part::Number,
@@ -81,9 +81,9 @@ pub fn after(stations: u8, part: Part, byte: u8) -> Part
 
 // The rest of a record with so many bytes left.
 fn body(owner: Owner, left: u16) -> Part
-    ensures known { (stations : ℕ) → IsOneOf stations owner → IsKnown stations result }
+    ensures known { (stations : ℕ) → IsOneOf stations owner → HasOwner stations result }
     ensures rest { (high low : ℕ) (payload : List ℕ) → length payload + left ≡ from_be_bytes w16 (high ∷ low ∷ []) →
-        IsRest result (head_of owner ++ high ∷ low ∷ payload) }
+        IsPartUnlessWhole result (head_bytes owner ++ high ∷ low ∷ payload) }
 {
     if left == 0 {
         Part::Letter

@@ -31,13 +31,13 @@ pub struct RecordReader {
 
 impl RecordReader {
     ghost use Rattle.hk_records.specs.Part.{IsFor};
-    ghost use Rattle.hk_records.specs.Reader.{HasRead, EndsWith, IsGood, came_at, fault_met, limit_of, stations_of};
+    ghost use Rattle.hk_records.specs.Reader.{HasRead, EndsWith, IsGood, came_at, trouble_met, input_limit, stations_of};
 
     /// Nothing is read yet. An input of over `limit` bytes is too long.
     pub fn new(stations: u8, limit: u64) -> RecordReader
         ensures reads { HasRead result [] }
         ensures stations { stations_of result ≡ stations }
-        ensures limit { limit_of result ≡ limit }
+        ensures limit { input_limit result ≡ limit }
     {
         RecordReader {
             stations,
@@ -51,14 +51,14 @@ impl RecordReader {
 
     /// What the next byte is. After `Bad` each push answers that fault and changes nothing.
     pub fn push(&mut self, byte: u8) -> Came
-        ensures came { (text : List ℕ) → HasRead self.old text → result ≡ came_at (stations_of self.old) (limit_of self.old) (text ++ byte ∷ []) }
+        ensures came { (text : List ℕ) → HasRead self.old text → result ≡ came_at (stations_of self.old) (input_limit self.old) (text ++ byte ∷ []) }
         ensures reads { (text : List ℕ) → HasRead self.old text → IsGood result → HasRead self.new (text ++ byte ∷ []) }
         ensures known { (text : List ℕ) → HasRead self.old text → IsFor (stations_of self.old) result }
         ensures stations { stations_of self.new ≡ stations_of self.old }
-        ensures limit { limit_of self.new ≡ limit_of self.old }
-        ensures fault { (trouble : Trouble) → result ≡ Came.Bad trouble → fault_met self.new ≡ Some trouble }
-        ensures same_fault { (trouble : Trouble) → fault_met self.old ≡ Some trouble → result ≡ Came.Bad trouble }
-        ensures fault_changes_nothing { (trouble : Trouble) → fault_met self.old ≡ Some trouble → self.new ≡ self.old }
+        ensures limit { input_limit self.new ≡ input_limit self.old }
+        ensures fault { (trouble : Trouble) → result ≡ Came.Bad trouble → trouble_met self.new ≡ Some trouble }
+        ensures same_fault { (trouble : Trouble) → trouble_met self.old ≡ Some trouble → result ≡ Came.Bad trouble }
+        ensures fault_changes_nothing { (trouble : Trouble) → trouble_met self.old ≡ Some trouble → self.new ≡ self.old }
     {
         if let Some(fault) = self.fault {
             return Came::Bad(fault);
@@ -80,9 +80,9 @@ impl RecordReader {
     // Keeps the input's first fault.
     fn fail(&mut self, fault: Trouble) -> Came
         ensures told { result ≡ Came.Bad fault }
-        ensures kept { fault_met self.new ≡ Some fault }
+        ensures kept { trouble_met self.new ≡ Some fault }
         ensures stations { stations_of self.new ≡ stations_of self.old }
-        ensures limit { limit_of self.new ≡ limit_of self.old }
+        ensures limit { input_limit self.new ≡ input_limit self.old }
     {
         self.fault = Some(fault);
         Came::Bad(fault)
@@ -90,8 +90,8 @@ impl RecordReader {
 
     /// How the input ends here: in order, inside a record, or with the fault that was met.
     pub fn finish(&self) -> Result<(), Trouble>
-        ensures ends { (text : List ℕ) → HasRead self.now text → EndsWith (stations_of self.now) (limit_of self.now) text result }
-        ensures fault { (trouble : Trouble) → fault_met self.now ≡ Some trouble → result ≡ Err trouble }
+        ensures ends { (text : List ℕ) → HasRead self.now text → EndsWith (stations_of self.now) (input_limit self.now) text result }
+        ensures fault { (trouble : Trouble) → trouble_met self.now ≡ Some trouble → result ≡ Err trouble }
     {
         if let Some(fault) = self.fault {
             return Err(fault);

@@ -4,11 +4,11 @@ ghost use Rattle.hk_spec_runs.specs.Outcome.{task_of};
 ghost use Rattle.hk_spec_runs.specs.Words.{Print};
 ghost use Rattle.hk_words.specs.Orders.{printing_meant, PrintingFits};
 ghost use Rattle.hk_printer.specs.Printed.{HasPrinted, printing_of};
-ghost use Rattle.hk_replay.specs.Top.{Does};
+ghost use Rattle.hk_player.specs.Endings.{Does};
+ghost use Rattle.hk_replay.specs.Orders.{CarriesOut};
 
-use crate::statuses::{NO_MEMORY, status_of};
-use hk_base::{Sink, Source, Status, Steps};
-use hk_player::play;
+use hk_base::{NoMemory, Sink, Source, Steps};
+use hk_player::{Ending, play};
 use hk_printer::Printer;
 use hk_words::PrintRules;
 use std::alloc::Global;
@@ -21,21 +21,19 @@ pub fn print<S: Source, K: Sink>(
     rules: &PrintRules,
     input: &mut S,
     out: &mut K,
-) -> Status
+) -> Result<Ending, NoMemory>
     requires fits { PrintingFits rules.now }
-    ensures does { Does (task_of (Print (printing_meant rules.now))) result.code
-        (S.left input.old) (S.left input.new) (K.written out.old) (K.written out.new) (S.faults input.old) (S.faults input.new) (K.faults out.old) (K.faults out.new) }
+    ensures does { CarriesOut S.Source K.Sink (task_of (Print (printing_meant rules.now))) result input.old input.new out.old out.new }
 {
-    match Printer::new(
+    let printer = Printer::new(
         alloc,
         rules.channels,
         rules.factor,
         rules.flips,
         rules.bytes,
-    ) {
-        Ok(printer) => print_counted::<S, K, Brand>(printer, input, out, Blank::new(1)),
-        Err(_) => Status { code: NO_MEMORY },
-    }
+    )?;
+    let ending = print_counted::<S, K, Brand>(printer, input, out, Blank::new(1));
+    Ok(ending)
 }
 
 // Prints the input's sound by a new printer.
@@ -44,15 +42,14 @@ fn print_counted<S: Source, K: Sink, L: Ledger>(
     input: &mut S,
     out: &mut K,
     blank: Blank,
-) -> Status
+) -> Ending
     requires name { blank.name ≡ L.name }
     requires parts { blank.parts ≡ L.parts }
     requires some { 0 < L.parts }
     requires new { HasPrinted printer [] }
-    ensures does { Does (task_of (Print (printing_of printer))) result.code
-        (S.left input.old) (S.left input.new) (K.written out.old) (K.written out.new) (S.faults input.old) (S.faults input.new) (K.faults out.old) (K.faults out.new) }
+    ensures does { Does S.Source K.Sink (task_of (Print (printing_of printer))) result input.old input.new out.old out.new }
 {
     let mut printer = printer;
     let mut steps = Steps::new(blank);
-    status_of(play::<Printer, S, K, L>(&mut printer, input, out, &mut steps))
+    play::<Printer, S, K, L>(&mut printer, input, out, &mut steps)
 }

@@ -4,11 +4,11 @@ ghost use Rattle.hk_spec_runs.specs.Outcome.{task_of};
 ghost use Rattle.hk_spec_runs.specs.Words.{Replay};
 ghost use Rattle.hk_words.specs.Orders.{rules_meant, RulesFit};
 ghost use Rattle.hk_run.specs.Playing.{HasPlayed};
-ghost use Rattle.hk_replay.specs.Top.{Does};
+ghost use Rattle.hk_player.specs.Endings.{Does};
+ghost use Rattle.hk_replay.specs.Orders.{CarriesOut};
 
-use crate::statuses::{NO_MEMORY, status_of};
-use hk_base::{Sink, Source, Status, Steps};
-use hk_player::play;
+use hk_base::{NoMemory, Sink, Source, Steps};
+use hk_player::{Ending, play};
 use hk_run::Run;
 use hk_words::RunRules;
 use std::alloc::Global;
@@ -21,15 +21,13 @@ pub fn replay<S: Source, K: Sink>(
     rules: &RunRules,
     input: &mut S,
     out: &mut K,
-) -> Status
+) -> Result<Ending, NoMemory>
     requires fits { RulesFit rules.now }
-    ensures does { Does (task_of (Replay (rules_meant rules.now))) result.code
-        (S.left input.old) (S.left input.new) (K.written out.old) (K.written out.new) (S.faults input.old) (S.faults input.new) (K.faults out.old) (K.faults out.new) }
+    ensures does { CarriesOut S.Source K.Sink (task_of (Replay (rules_meant rules.now))) result input.old input.new out.old out.new }
 {
-    match Run::new(alloc, rules) {
-        Ok(run) => replay_counted::<S, K, Brand>(run, input, out, Blank::new(1)),
-        Err(_) => Status { code: NO_MEMORY },
-    }
+    let run = Run::new(alloc, rules)?;
+    let ending = replay_counted::<S, K, Brand>(run, input, out, Blank::new(1));
+    Ok(ending)
 }
 
 // Replays the input by a new run, and counts the steps of its looks in a ledger of their own.
@@ -38,15 +36,14 @@ fn replay_counted<S: Source, K: Sink, L: Ledger>(
     input: &mut S,
     out: &mut K,
     blank: Blank,
-) -> Status
+) -> Ending
     requires name { blank.name ≡ L.name }
     requires parts { blank.parts ≡ L.parts }
     requires some { 0 < L.parts }
     requires new { HasPlayed (rules_meant run.rules) run [] [] }
-    ensures does { Does (task_of (Replay (rules_meant run.rules))) result.code
-        (S.left input.old) (S.left input.new) (K.written out.old) (K.written out.new) (S.faults input.old) (S.faults input.new) (K.faults out.old) (K.faults out.new) }
+    ensures does { Does S.Source K.Sink (task_of (Replay (rules_meant run.rules))) result input.old input.new out.old out.new }
 {
     let mut run = run;
     let mut steps = Steps::new(blank);
-    status_of(play::<Run, S, K, L>(&mut run, input, out, &mut steps))
+    play::<Run, S, K, L>(&mut run, input, out, &mut steps)
 }

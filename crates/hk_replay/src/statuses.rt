@@ -2,7 +2,7 @@
 ghost use Rattle.std.specs.Prelude.{◌≡◌};
 ghost use Rattle.hk_replay.specs.Top.{code_of};
 
-use hk_base::Status;
+use hk_base::{NoMemory, Status};
 use hk_player::Ending;
 
 pub const ENDED: u8 = 0;
@@ -19,16 +19,17 @@ pub const WRITE_FAULT: u8 = 6;
 
 pub const STOPPED: u8 = 7;
 
-// The status of an input that was played.
-pub fn status_of(ending: Ending) -> Status
+// The status of an order that was carried out.
+pub fn status_of(ending: Result<Ending, NoMemory>) -> Status
     ensures { result.code ≡ code_of ending }
 {
     let code = match ending {
-        Ending::Whole(true) => ENDED,
-        Ending::Whole(false) => IN_DISORDER,
-        Ending::Stopped => STOPPED,
-        Ending::ReadFault => READ_FAULT,
-        Ending::SinkFault => WRITE_FAULT,
+        Ok(Ending::Whole(true)) => ENDED,
+        Ok(Ending::Whole(false)) => IN_DISORDER,
+        Ok(Ending::Stopped) => STOPPED,
+        Ok(Ending::ReadFault) => READ_FAULT,
+        Ok(Ending::SinkFault) => WRITE_FAULT,
+        Err(_) => NO_MEMORY,
     };
     Status { code }
 }

@@ -4,17 +4,16 @@ ghost use Rattle.hk_base.specs.Devices.{Rose, Wrote};
 ghost use Rattle.hk_spec_runs.specs.Outcome.{Trades, IsWhole, IsStopped, IsReadFault, IsWriteFault};
 ghost use Rattle.hk_replay.specs.Top.{task_asked, IfAsked, IsStatus, ENDED, IN_DISORDER, USAGE, NO_MEMORY, READ_FAULT, WRITE_FAULT, STOPPED};
 
-use crate::printing::print;
-use crate::replaying::replay;
-use crate::statuses;
+use crate::order::carry_out;
+use crate::statuses::{USAGE, status_of};
 use hk_base::{Sink, Source, Status};
-use hk_words::{Order, read_words};
+use hk_words::read_words;
 use std::alloc::Global;
 
-/// Does what the words ask for with the input, and writes the answer: `replay` replays records, `print` prints sound. The
-/// statuses are 0 where all of the text was written and every stream ended in order, 3 where some stream didn't, 2 where the
-/// words are no command, 4 for want of memory at the opening, 5 where reading failed, 6 where writing failed, and 7 where the
-/// input has a fault.
+/// Does what the words ask for with the input, and writes the answer: `replay` replays records, `print` prints sound, and
+/// `make` replays an input of its own and reads none. The statuses are 0 where all of the text was written and every stream
+/// ended in order, 3 where some stream didn't, 2 where the words are no command, 4 for want of memory at the opening or while
+/// `make` replays, 5 where reading failed, 6 where writing failed, and 7 where the input has a fault.
 pub fn replay_top<S: Source, K: Sink>(
     alloc: Global,
     words: &Vec<String>,
@@ -32,9 +31,12 @@ pub fn replay_top<S: Source, K: Sink>(
     ensures usage_unread { result.code ≡ USAGE → input.new ≡ input.old }
     ensures usage_unwritten { result.code ≡ USAGE → out.new ≡ out.old }
 
-    // Memory was wanted before the first byte, whatever the input is.
-    ensures no_memory_unread { result.code ≡ NO_MEMORY → S.left input.new ≡ S.left input.old }
-    ensures no_memory_unwritten { result.code ≡ NO_MEMORY → K.written out.new ≡ K.written out.old }
+    // Memory was wanted before anything was read or written.
+    ensures no_memory_unread { result.code ≡ NO_MEMORY → input.new ≡ input.old }
+    ensures no_memory_unwritten { result.code ≡ NO_MEMORY → out.new ≡ out.old }
+
+    // An input that is made is none that is read.
+    ensures make_unread { IfAsked words.now.items (λ task. task.reads ≡ false → input.new ≡ input.old) }
 
     // All of the input was read and has no fault, its whole text was written, and every stream ended in order.
     ensures ended { result.code ≡ ENDED → IfAsked words.now.items (λ task.
@@ -81,10 +83,7 @@ pub fn replay_top<S: Source, K: Sink>(
         result.code ≡ ENDED) }
 {
     match read_words(words) {
-        Some(Order::Replay(rules)) => replay(alloc, &rules, input, out),
-        Some(Order::Print(rules)) => print(alloc, &rules, input, out),
-        _ => Status {
-            code: statuses::USAGE,
-        },
+        None => Status { code: USAGE },
+        Some(order) => status_of(carry_out(alloc, &order, input, out)),
     }
 }

@@ -17,7 +17,7 @@ use std::alloc::Global;
 use std::{fs, io};
 
 // The files with the rows.
-const FILES: [&str; 9] = [
+const FILES: [&str; 10] = [
     "replays.rows",
     "operators.rows",
     "stations.rows",
@@ -26,6 +26,7 @@ const FILES: [&str; 9] = [
     "prints.rows",
     "troubles.rows",
     "words.rows",
+    "make.rows",
     "devices.rows",
 ];
 

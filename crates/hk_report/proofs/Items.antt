@@ -8,7 +8,7 @@ use Rattle.hk_base.specs.declared.plain.Match.{Match}
 use Rattle.hk_spec_lines.specs.Lines.{NEWLINE, match_text, list_text}
 use Rattle.hk_report.specs.Pieces.{further_items}
 use Rattle.hk_report.specs.Reports.{ItemFits}
-use Rattle.hk_report.specs.LineReading.{IsDigit, IsCut, GoesOn, Differs, StopsBefore, Numeral, Field, Item, AreFurther, IsList, MOST_32}
+use Rattle.hk_report.specs.LineReading.{IsDigit, IsCut, GoesOn, Differs, StopsBefore, Numeral, Field, ItemField, AreFurther, IsList, MOST_32}
 use Rattle.hk_report.proofs.Numbers.{split_number, not_cut, heads, tails}
 use Rattle.hk_report.proofs.Stopping.{FollowsNumber, field_follows, another_byte, stops_among, stops_behind_front, still_cut}
 
@@ -70,7 +70,7 @@ start_follows = field_follows 64 [] MOST_32 (Field (codes "~") MOST_32 AreFurthe
 abbrev AreItems : List ℕ → List ℕ → Type 0
 AreItems word t = (m : Match) × (items : List Match) × ItemFits m × AllByRecursion ItemFits items × (t ≡ word ++ (match_text m ++ (further_items items ++ NEWLINE)))
 
-items_of : (word t : List ℕ) → Item word AreFurther t → AreItems word t
+items_of : (word t : List ℕ) → ItemField word AreFurther t → AreItems word t
 items_of word t h =
     let id : Numeral MOST_32 (Field (codes "@") MOST_32 (Field (codes "~") MOST_32 AreFurther)) h.0 = h.2 in
     let start : Numeral MOST_32 (Field (codes "~") MOST_32 AreFurther) id.4.0 = id.4.2 in
@@ -85,7 +85,7 @@ items_of word t h =
           ∙ sym (item_parts m (further_items errors.4.0 ++ NEWLINE))),
     )
 
-item_of : (word t : List ℕ) → AreItems word t → Item word AreFurther t
+item_of : (word t : List ℕ) → AreItems word t → ItemField word AreFurther t
 item_of word t h =
     let m : Match = h.0 in
     let further : List ℕ = further_items h.1 ++ NEWLINE in (
@@ -110,21 +110,21 @@ item_of word t h =
       ),
     )
 
-pub item_list : (t : List ℕ) → Item [] AreFurther t → IsList t
+pub item_list : (t : List ℕ) → ItemField [] AreFurther t → IsList t
 item_list t h =
     let parts : AreItems [] t = items_of [] t h in
     (parts.0 ∷ parts.1, (parts.2, parts.3), parts.4 ∙ sym (append_assoc (match_text parts.0) (further_items parts.1) NEWLINE))
 
-pub item_further : (t : List ℕ) → Item (codes " ") AreFurther t → AreFurther t
+pub item_further : (t : List ℕ) → ItemField (codes " ") AreFurther t → AreFurther t
 item_further t h =
     let parts : AreItems (codes " ") t = items_of (codes " ") t h in
     (parts.0 ∷ parts.1, (parts.2, parts.3), parts.4 ∙ ap (λ x. 32 ∷ x) (sym (append_assoc (match_text parts.0) (further_items parts.1) NEWLINE)))
 
-list_cases : (t : List ℕ) (items : List Match) → AllByRecursion ItemFits items → t ≡ list_text items ++ NEWLINE → (t ≡ codes "none\n") ⊎ Item [] AreFurther t
+list_cases : (t : List ℕ) (items : List Match) → AllByRecursion ItemFits items → t ≡ list_text items ++ NEWLINE → (t ≡ codes "none\n") ⊎ ItemField [] AreFurther t
 list_cases t [] fits e = inl e
 list_cases t (m ∷ ms) fits e = inr (item_of [] t (m, ms, fits.0, fits.1, e ∙ append_assoc (match_text m) (further_items ms) NEWLINE))
 
-further_cases : (t : List ℕ) (items : List Match) → AllByRecursion ItemFits items → t ≡ further_items items ++ NEWLINE → (t ≡ NEWLINE) ⊎ Item (codes " ") AreFurther t
+further_cases : (t : List ℕ) (items : List Match) → AllByRecursion ItemFits items → t ≡ further_items items ++ NEWLINE → (t ≡ NEWLINE) ⊎ ItemField (codes " ") AreFurther t
 further_cases t [] fits e = inl e
 further_cases t (m ∷ ms) fits e = inr (item_of (codes " ") t (m, ms, fits.0, fits.1, e ∙ ap (λ x. 32 ∷ x) (append_assoc (match_text m) (further_items ms) NEWLINE)))
 
@@ -147,11 +147,11 @@ none_if_n text rest e t on h =
           absurd (not_cut m.id _ (omega (arith, parts.2.id)) (subst IsCut (sym begun.1 ∙ digits) (other_cut 110 begun.0 (inr (omega arith)))))
     ]
 
-pub item_if_no_n : (text : List ℕ) → Differs 110 text → (t : List ℕ) → GoesOn text t → IsList t → Item [] AreFurther t
+pub item_if_no_n : (text : List ℕ) → Differs 110 text → (t : List ℕ) → GoesOn text t → IsList t → ItemField [] AreFurther t
 item_if_no_n text other t on h =
     elim (list_cases t h.0 h.1 h.2) [ inl none ↦ absurd (another_byte 110 text t _ other on none) | inr item ↦ item ]
 
-pub item_if_space : (text rest : List ℕ) → text ≡ 32 ∷ rest → (t : List ℕ) → GoesOn text t → AreFurther t → Item (codes " ") AreFurther t
+pub item_if_space : (text rest : List ℕ) → text ≡ 32 ∷ rest → (t : List ℕ) → GoesOn text t → AreFurther t → ItemField (codes " ") AreFurther t
 item_if_space text rest e t on h =
     let begun : (r : List ℕ) × (t ≡ 32 ∷ r) = subst (λ x. GoesOn x t) e on in
     elim (further_cases t h.0 h.1 h.2) [
@@ -231,9 +231,9 @@ behind_items items text rest left fits e cut s =
     stops_behind_front AreFurther AreFurther (further_items items) text rest left (further_after items fits) (λ t on h. further_rest items fits t (still_cut rest t cut on) h) e s
 
 pub in_item : (items : List Match) (text rest left : List ℕ) → AllByRecursion ItemFits items → text ≡ further_items items ++ rest → IsCut rest → (r : List ℕ) × (rest ≡ 32 ∷ r)
-    → StopsBefore (Item (codes " ") AreFurther) rest left → StopsBefore AreFurther text left
+    → StopsBefore (ItemField (codes " ") AreFurther) rest left → StopsBefore AreFurther text left
 in_item items text rest left fits e cut space_next s =
-    behind_items items text rest left fits e cut (stops_among (Item (codes " ") AreFurther) AreFurther rest left item_further (item_if_space rest space_next.0 space_next.1) s)
+    behind_items items text rest left fits e cut (stops_among (ItemField (codes " ") AreFurther) AreFurther rest left item_further (item_if_space rest space_next.0 space_next.1) s)
 
 pub in_line_end : (items : List Match) (text rest left : List ℕ) → AllByRecursion ItemFits items → text ≡ further_items items ++ rest → IsCut rest → Differs 32 rest
     → StopsBefore (λ t. t ≡ NEWLINE) rest left → StopsBefore AreFurther text left
@@ -244,8 +244,8 @@ in_line_end items text rest left fits e cut no_space s =
 pub in_none : (text left : List ℕ) → (r : List ℕ) × (text ≡ 110 ∷ r) → StopsBefore (λ t. t ≡ codes "none\n") text left → StopsBefore IsList text left
 in_none text left n_next s = stops_among (λ t. t ≡ codes "none\n") IsList text left (λ t none. ([], tt, none)) (none_if_n text n_next.0 n_next.1) s
 
-pub in_first_item : (text left : List ℕ) → Differs 110 text → StopsBefore (Item [] AreFurther) text left → StopsBefore IsList text left
-in_first_item text left no_n s = stops_among (Item [] AreFurther) IsList text left item_list (item_if_no_n text no_n) s
+pub in_first_item : (text left : List ℕ) → Differs 110 text → StopsBefore (ItemField [] AreFurther) text left → StopsBefore IsList text left
+in_first_item text left no_n s = stops_among (ItemField [] AreFurther) IsList text left item_list (item_if_no_n text no_n) s
 
 further_behind_first : (m : Match) (t : List ℕ) (items : List Match) → ItemFits m → IsCut t → AllByRecursion ItemFits items → match_text m ++ t ≡ list_text items ++ NEWLINE → AreFurther t
 further_behind_first m t [] fits cut fits' e =

@@ -72,8 +72,8 @@ abbrev pub MOST_64 : ℕ
 MOST_64 = 18446744073709551615
 
 -- an item behind a word, and then a text of that kind
-abbrev pub Item : List ℕ → (List ℕ → Type 0) → List ℕ → Type 0
-Item word IsKind text = Field word MOST_32 (Field (codes "@") MOST_32 (Field (codes "~") MOST_32 IsKind)) text
+abbrev pub ItemField : List ℕ → (List ℕ → Type 0) → List ℕ → Type 0
+ItemField word IsKind text = Field word MOST_32 (Field (codes "@") MOST_32 (Field (codes "~") MOST_32 IsKind)) text
 
 -- further items, and the line's end
 abbrev pub AreFurther : List ℕ → Type 0

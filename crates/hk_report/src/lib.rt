@@ -9,6 +9,7 @@
 mod gathered;
 mod hexadecimal;
 mod line;
+mod made;
 mod pieces;
 mod print;
 mod read;
@@ -22,6 +23,7 @@ pub use hk_base::{
     End, Failed, Head, Match, NoMemory, OpEnd, Print, Reason, Reply, Sink, Trouble, What, WireFault,
 };
 pub use line::write_line;
+pub use made::write_made;
 pub use print::write_print;
 pub use reader::{LineFault, read_line};
 pub use reply::write_reply;

@@ -7,7 +7,7 @@ ghost use Rattle.hk_base.specs.declared.plain.Match.{Match as AMatch};
 ghost use Rattle.hk_spec_lines.specs.Lines.{match_text, list_text, NEWLINE};
 ghost use Rattle.hk_report.specs.Pieces.{head_text, further_items};
 ghost use Rattle.hk_report.specs.Reports.{HeadFits, ItemFits, IsReportOf, IsReport, IsBadPlace};
-ghost use Rattle.hk_report.specs.LineReading.{IsCut, Item, AreFurther, IsList, StopsBefore};
+ghost use Rattle.hk_report.specs.LineReading.{IsCut, ItemField, AreFurther, IsList, StopsBefore};
 
 use crate::read::{Misfit, comes_next, read_field, read_last, read_word};
 use hk_base::{Head, Match};
@@ -40,7 +40,7 @@ fn read_item<'a>(bytes: &'a [u8], word: &[u8]) -> Result<(Match, &'a [u8]), Misf
     ensures fits { IfOk result (λ read. ItemFits read.0) }
     ensures found { IfOk result (λ read. bytes.now ≡ word.now ++ match_text read.0 ++ read.1.now) }
     ensures cut { IfOk result (λ read. IsCut read.1.now) }
-    ensures misfit { IfErr result (λ misfit. StopsBefore (Item word.now AreFurther) bytes.now misfit.left.now) }
+    ensures misfit { IfErr result (λ misfit. StopsBefore (ItemField word.now AreFurther) bytes.now misfit.left.now) }
 {
     let most = u32::MAX as u64;
     let (id, rest) = read_field(bytes, word, most)?;

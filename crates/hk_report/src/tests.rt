@@ -42,6 +42,7 @@ fn each_line(rt: HostRuntime) -> Result<(), Fail> {
     write_mismatch(&mut sink, 3, 1, 2)?;
     write_trouble(&mut sink, &Trouble::BadRecord(5))?;
     write_print(&mut sink, 255, &print)?;
+    write_made(&mut sink, 96, 90, 4)?;
     let text = b"S 63 B 12 G 1 W 64 V 2: 7@0~2867 8@1~0\n\
         S 63 B 12 G 1 W 64 V 2: none\n\
         O 15 refused versions-full\n\
@@ -49,7 +50,8 @@ fn each_line(rt: HostRuntime) -> Result<(), Fail> {
         T O 3 2 cut 100\n\
         T M 3 1 2\n\
         R bad-record 5\n\
-        255 dead0042 0000000f\n";
+        255 dead0042 0000000f\n\
+        M blocks 96 matches 90 versions 4\n";
     assert_eq!(rt; sink.written(), text.as_slice());
     Ok(())
 }

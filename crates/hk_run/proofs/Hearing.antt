@@ -18,7 +18,7 @@ use Rattle.hk_spec_runs.specs.Replay.{Listener, Scene, arrived, for_station, rep
 use Rattle.hk_block.specs.Looker.{ShelfView}
 use Rattle.hk_probe.specs.Single.{Single, shelf_of}
 use Rattle.hk_spec_runs.specs.Listening.{next, lines_gained}
-use Rattle.hk_station.specs.Hearing.{IsHearing, number_of}
+use Rattle.hk_station.specs.Hearing.{IsHearing, station_number}
 use Rattle.hk_station.specs.Outcome.{UnlessTorn, OnTorn}
 use Rattle.hk_station.specs.declared.station.Progress.{Progress}
 use Rattle.hk_station.specs.declared.station.Progress.TheVariants.{Going, Over}
@@ -39,15 +39,15 @@ pub station_scene : (rules : Rules) (refused : List ℕ) (scene : Scene) (k byte
 station_scene rules refused scene k byte l is = ap (for_station rules scene k byte) is
 
 -- a byte for a station touches neither the operator nor the list of refused commands
-pub same_clerk : (rules : Rules) (scene : Scene) (k byte : ℕ) (o : Option Listener) → (for_station rules scene k byte o).calls ≡ scene.calls
-same_clerk rules scene k byte None = refl
-same_clerk rules scene k byte (Some l) = refl
+pub same_stream : (rules : Rules) (scene : Scene) (k byte : ℕ) (o : Option Listener) → (for_station rules scene k byte o).operator_stream ≡ scene.operator_stream
+same_stream rules scene k byte None = refl
+same_stream rules scene k byte (Some l) = refl
 
 no_reports : (rules : Rules) (k : ℕ) (state : OperatorState) (l : Listener) → reports rules k state.journal l l ≡ []
 no_reports rules k state l = ap (λ t. map (report rules k state.journal (length state.journal)) (cond t (enumerate_from (length (blocks rules.setting l.used)) (completed (blocks rules.setting) l.used)) [])) (le-ltb (length l.used) (length l.used) (omega arith))
 
 module _ (rules : Rules) (scene : Scene) (run : Run) (k byte : ℕ) (station : Station) (h : Holds rules run scene) (at : Found rules 0 station scene.listeners k) where
-  number_is : number_of station ≡ k
+  number_is : station_number station ≡ k
   number_is = omega (arith, at.number)
 
   pub scene_heard : (refused : List ℕ) → arrived rules refused scene (ForStation k byte)
@@ -64,8 +64,8 @@ module _ (rules : Rules) (scene : Scene) (run : Run) (k byte : ℕ) (station : S
       subst (λ (s : Scene). Holds rules run' s) (sym (scene_heard refused)) (record {
         hears = subst (λ ss. AreHearing rules 0 ss (slice_set scene.listeners k (next rules (length scene.state.journal) at.listener byte))) (sym stations)
             (exchanged rules 0 run.stations.items scene.listeners k station _ h.hears (subst (IsHearing rules station) (sym (over_next end over)) at.hears) at.number);
-        obeys = subst (λ o. IsObeying rules o (shelf_of run'.catalogue) scene.calls scene.state) (sym operators)
-            (subst (λ (s : Single). IsObeying rules run.operator (shelf_of s) scene.calls scene.state) (sym catalogues) h.obeys);
+        obeys = subst (λ o. IsObeying rules o (shelf_of run'.catalogue) scene.operator_stream scene.state) (sym operators)
+            (subst (λ (s : Single). IsObeying rules run.operator (shelf_of s) scene.operator_stream scene.state) (sym catalogues) h.obeys);
       })
 
   pub adds_skipped : (end : End) → station.end ≡ Some end → (refused : List ℕ) (w : Option (List ℕ)) → AddsScene scene (arrived rules refused scene (ForStation k byte)) w w
@@ -85,7 +85,7 @@ module _ (rules : Rules) (scene : Scene) (run : Run) (k byte : ℕ) (station : S
     songs_are : alone.songs ≡ version rules.limits scene.state.journal (length scene.state.journal)
     songs_are = songs ∙ ap (λ p. p.1) h.obeys.shelf.base
 
-    lines_are : lines_gained rules (number_of station) alone.version alone.songs at.listener byte
+    lines_are : lines_gained rules (station_number station) alone.version alone.songs at.listener byte
         ≡ flat_map printed_text (reports rules k scene.state.journal at.listener (next rules (length scene.state.journal) at.listener byte))
     unfolding report
     lines_are =
@@ -94,16 +94,16 @@ module _ (rules : Rules) (scene : Scene) (run : Run) (k byte : ℕ) (station : S
         ∙ ap (λ (s : Songs). lines_gained rules k (length scene.state.journal) s at.listener byte) songs_are
 
     pub holds_heard : (refused : List ℕ) (station' : Station) (run' : Run) → run'.stations.items ≡ slice_set run.stations.items k station' → run'.operator ≡ run.operator → run'.catalogue ≡ alone
-        → number_of station' ≡ number_of station → IsHearing rules station' (next rules alone.version at.listener byte) → Holds rules run' (arrived rules refused scene (ForStation k byte))
+        → station_number station' ≡ station_number station → IsHearing rules station' (next rules alone.version at.listener byte) → Holds rules run' (arrived rules refused scene (ForStation k byte))
     holds_heard refused station' run' stations operators catalogues numbers hears =
         subst (λ (s : Scene). Holds rules run' s) (sym (scene_heard refused)) (record {
           hears = subst (λ ss. AreHearing rules 0 ss (slice_set scene.listeners k (next rules (length scene.state.journal) at.listener byte))) (sym stations)
               (exchanged rules 0 run.stations.items scene.listeners k station' _ h.hears (subst (λ v. IsHearing rules station' (next rules v at.listener byte)) at_is hears) (numbers ∙ at.number));
-          obeys = subst (λ o. IsObeying rules o (shelf_of run'.catalogue) scene.calls scene.state) (sym operators)
-              (subst (λ (v : ShelfView). IsObeying rules run.operator v scene.calls scene.state) (sym (ap shelf_of catalogues ∙ shelf)) h.obeys);
+          obeys = subst (λ o. IsObeying rules o (shelf_of run'.catalogue) scene.operator_stream scene.state) (sym operators)
+              (subst (λ (v : ShelfView). IsObeying rules run.operator v scene.operator_stream scene.state) (sym (ap shelf_of catalogues ∙ shelf)) h.obeys);
         })
 
-    pub adds_lines : (refused text : List ℕ) (w y : Option (List ℕ)) → text ≡ lines_gained rules (number_of station) alone.version alone.songs at.listener byte ++ [] → Wrote text w y
+    pub adds_lines : (refused text : List ℕ) (w y : Option (List ℕ)) → text ≡ lines_gained rules (station_number station) alone.version alone.songs at.listener byte ++ [] → Wrote text w y
         → AddsScene scene (arrived rules refused scene (ForStation k byte)) w y
     adds_lines refused text w y is wrote = (
       reports rules k scene.state.journal at.listener (next rules (length scene.state.journal) at.listener byte),
@@ -111,7 +111,7 @@ module _ (rules : Rules) (scene : Scene) (run : Run) (k byte : ℕ) (station : S
       subst (λ (t : List ℕ). Wrote t w y) (is ∙ append-nil _ ∙ lines_are) wrote,
     )
 
-    pub adds_front : (refused line : List ℕ) (w y : Option (List ℕ)) → line ≡ lines_gained rules (number_of station) alone.version alone.songs at.listener byte → WroteFront line w y
+    pub adds_front : (refused line : List ℕ) (w y : Option (List ℕ)) → line ≡ lines_gained rules (station_number station) alone.version alone.songs at.listener byte → WroteFront line w y
         → AddsSceneFront scene (arrived rules refused scene (ForStation k byte)) w y
     adds_front refused line w y is front = (
       reports rules k scene.state.journal at.listener (next rules (length scene.state.journal) at.listener byte),

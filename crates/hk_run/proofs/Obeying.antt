@@ -1,29 +1,22 @@
 -- A byte of the operator's stream.
-use Rattle.std.proofs.Common.{◌≡◌, ℕ, ◌+◌, List, [], ◌∷◌, ◌++◌, length, refl, sym, ◌∙◌, ap, subst, arith, length-append, inl, inr, ◌⊎◌, Bool, true, false, Option, Some, None, Ok, Err, cond}
-use Rattle.std.specs.Prelude.{is_some, nat_le}
-use Rattle.std.specs.Option.{option_map_or}
+use Rattle.std.proofs.Common.{◌≡◌, ℕ, ◌+◌, List, [], ◌∷◌, length, refl, sym, ◌∙◌, ap, subst, length-append, inl, inr, ◌⊎◌, Bool, true, false, Ok, Err, cond}
+use Rattle.std.specs.Prelude.{nat_le}
 use Rattle.hk_base.specs.declared.plain.OpEnd.{OpEnd}
-use Rattle.hk_base.specs.declared.plain.OpEnd.TheVariants as op_ends
 use Rattle.hk_base.specs.declared.plain.Reason.TheVariants.{VersionsFull}
 use Rattle.hk_base.specs.declared.plain.Reply.{Reply as OpReply}
-use Rattle.hk_base.specs.declared.plain.What.{What}
 use Rattle.hk_base.specs.declared.plain.What.TheVariants.{Published, Refused}
-use Rattle.hk_base.specs.declared.plain.WireFault.{WireFault}
-use Rattle.hk_spec_streams.specs.Pieces.{completed, first_that_holds}
-use Rattle.hk_spec_streams.specs.Operator.{Command, Publish, commands, operator_met}
-use Rattle.hk_spec_streams.proofs.Completed.{completed-more}
-use Rattle.hk_spec_streams.proofs.GrowingCommands.{commands-append}
-use Rattle.hk_spec_runs.specs.OperatorState.{OperatorState, answer, after, IsReply}
+use Rattle.hk_spec_streams.specs.Operator.{Command, Publish, commands}
+use Rattle.hk_spec_runs.specs.OperatorState.{OperatorState, after, IsReply}
 use Rattle.hk_spec_settings.specs.Settings.{Rules}
 use Rattle.hk_spec_runs.specs.Replay.{OperatorStream}
 use Rattle.hk_catalogue.specs.declared.refused.Refused.{Refused as Misfit}
 use Rattle.hk_catalogue.specs.declared.refused.Refused.TheVariants as misfits
 use Rattle.hk_probe.specs.Single.{Single, shelf_of, publish_answer, after_publish}
-use Rattle.hk_operator.specs.Obeying.{IsObeying, IsAnswered, calls_after, new_commands}
+use Rattle.hk_operator.specs.Obeying.{IsAnswered, stream_after, new_commands}
+use Rattle.hk_operator.specs.Answering.{HasPublished, Publishes, HasNoVersion}
 use Rattle.hk_operator.specs.declared.done.Done.{Done}
 use Rattle.hk_operator.specs.declared.done.Done.TheVariants as dones
-use Rattle.hk_operator.specs.declared.operator.Operator.{Operator}
-use Rattle.hk_operator.proofs.Joining.{publish_refused, publish_obeyed}
+use Rattle.hk_operator.proofs.Answering.{commands_grow}
 
 -- What is answered, by what was done.
 module _ (rules : Rules) (state : OperatorState) (number : ℕ) (Leaves : OperatorState → Type 0) where
@@ -49,80 +42,30 @@ module _ (rules : Rules) (state : OperatorState) (number : ℕ) (Leaves : Operat
   handed [] n is = absurd is
   handed (command ∷ more) n is = (ap (λ cs. command ∷ cs) is.0 ∙ ap (λ c. c ∷ []) is.1, is.2, is.3)
 
-full_row : (t : Bool) → is_some (first_that_holds ((t, VersionsFull) ∷ [])) ≡ t
-full_row true = refl
-full_row false = refl
+-- What the catalogue did for a publish.
+module _ (alone : Single) where
+  published_by : (full : Bool) (v : ℕ) (now : Single) → nat_le alone.limits.versions alone.version ≡ full
+      → Ok v ≡ cond full (Err (misfits.VersionsFull alone.limits.versions)) (Ok (alone.version + 1)) → now ≡ after_publish alone
+      → HasPublished (shelf_of alone) (shelf_of now) (Published v)
+  published_by true v now full is same = absurd (cc)
+  published_by false v now left is same =
+      let number : v ≡ alone.version + 1 = cc in
+      subst (λ (s : Single). HasPublished (shelf_of alone) (shelf_of s) (Published v)) (sym same)
+      (Publishes left (record { base = refl; present = refl; staged = refl; limits = refl }) (ap (λ n. Published n) number))
 
-answer_by : ℕ → Bool → What
-answer_by n t = option_map_or (λ reason. Refused reason) (first_that_holds ((t, VersionsFull) ∷ [])) (Published n)
+  pub published : (v : ℕ) (now : Single) → Ok v ≡ publish_answer alone → now ≡ after_publish alone → HasPublished (shelf_of alone) (shelf_of now) (Published v)
+  published v now is same = published_by (nat_le alone.limits.versions alone.version) v now refl is same
 
--- A publish on the catalogue.
-module _ (rules : Rules) (alone : Single) (operator : Operator) (calls : OperatorStream) (state : OperatorState) (h : IsObeying rules operator (shelf_of alone) calls state) where
-  is_full : (t : Bool) → nat_le alone.limits.versions alone.version ≡ t → answer rules state Publish ≡ answer_by (length state.journal + 1) t
-  unfolding answer answer_by
-  is_full t is =
-      let full : nat_le rules.limits.versions (length state.journal) ≡ t =
-      sym (full_row (nat_le rules.limits.versions (length state.journal))) ∙ publish_refused rules (shelf_of alone) state h.shelf ∙ is in
-      ap (λ u. option_map_or (λ reason. Refused reason) (first_that_holds ((u, VersionsFull) ∷ [])) (Published (length state.journal + 1))) full
+  refused_by : (full : Bool) (misfit : Misfit) (now : Single) → nat_le alone.limits.versions alone.version ≡ full
+      → Err misfit ≡ cond full (Err (misfits.VersionsFull alone.limits.versions)) (Ok (alone.version + 1)) → now ≡ alone
+      → HasPublished (shelf_of alone) (shelf_of now) (Refused VersionsFull)
+  refused_by true misfit now full is same = HasNoVersion full (ap shelf_of same) refl
+  refused_by false misfit now left is same = absurd (cc)
 
-  version_is : alone.version ≡ length state.journal
-  version_is = ap (λ p. p.0) h.shelf.base
-
-  done_by : (t : Bool) (v : ℕ) → nat_le alone.limits.versions alone.version ≡ t → Ok v ≡ cond t (Err (misfits.VersionsFull alone.limits.versions)) (Ok (alone.version + 1))
-      → (answer rules state Publish ≡ Published v) × (v ≡ length state.journal + 1)
-  unfolding answer_by
-  done_by true v full is = cc
-  done_by false v full is =
-      let same : v ≡ alone.version + 1 = cc in
-      let number : v ≡ length state.journal + 1 = omega (arith, same, version_is) in
-      (is_full false full ∙ ap (λ n. Published n) (sym number), number)
-
-  pub published : (v : ℕ) (now : Single) → Ok v ≡ publish_answer alone → now ≡ after_publish alone
-      → IsReply rules state Publish (Published v) × IsObeying rules operator (shelf_of now) calls (after rules state Publish (Published v))
-  published v now is same =
-      let done = done_by (nat_le alone.limits.versions alone.version) v refl is in (
-        inl (sym done.0),
-        subst (λ (s : Single). IsObeying rules operator (shelf_of s) calls (after rules state Publish (Published v))) (sym same)
-            (subst (λ n. IsObeying rules operator (shelf_of (after_publish alone)) calls (after rules state Publish (Published n))) (sym done.1)
-            (publish_obeyed rules (shelf_of alone) state h.shelf (shelf_of (after_publish alone)) refl refl refl refl operator calls h)),
-      )
-
-  refused_by : (t : Bool) (misfit : Misfit) → nat_le alone.limits.versions alone.version ≡ t → Err misfit ≡ cond t (Err (misfits.VersionsFull alone.limits.versions)) (Ok (alone.version + 1))
-      → answer rules state Publish ≡ Refused VersionsFull
-  unfolding answer_by
-  refused_by true misfit full is = is_full true full
-  refused_by false misfit full is = cc
-
-  pub refused : (misfit : Misfit) (now : Single) → Err misfit ≡ publish_answer alone → now ≡ alone
-      → IsReply rules state Publish (Refused VersionsFull) × IsObeying rules operator (shelf_of now) calls (after rules state Publish (Refused VersionsFull))
-  unfolding after
-  refused misfit now is same = (
-    inl (sym (refused_by (nat_le alone.limits.versions alone.version) misfit refl is)),
-    subst (λ (s : Single). IsObeying rules operator (shelf_of s) calls state) (sym same) h,
-  )
+  pub refused : (misfit : Misfit) (now : Single) → Err misfit ≡ publish_answer alone → now ≡ alone → HasPublished (shelf_of alone) (shelf_of now) (Refused VersionsFull)
+  refused misfit now is same = refused_by (nat_le alone.limits.versions alone.version) misfit now refl is same
 
 -- How many commands there are after a byte.
-module _ (rules : Rules) (calls : OperatorStream) (b : ℕ) where
-  used : List ℕ
-  used = calls.used ++ b ∷ []
-
-  after_by : Option OpEnd → Option WireFault → OperatorStream
-  after_by end met = cond (is_some end) calls (option_map_or (λ fault. record { used = calls.used; end = Some (op_ends.Wire fault) }) met (record { used = used; end = None }))
-
-  Counts : OperatorStream → Type 0
-  Counts now = length (commands calls.used) + length (cond (is_some now.end) [] (completed commands used)) ≡ length (commands now.used)
-
-  counts_by : (end : Option OpEnd) (met : Option WireFault) → calls.end ≡ end → Counts (after_by end met)
-  unfolding Counts after_by used
-  counts_by (Some e) met is =
-      let none : length (cond (is_some calls.end) [] (completed commands (calls.used ++ b ∷ []))) ≡ 0 = ap (λ o. length (cond (is_some o) [] (completed commands (calls.used ++ b ∷ [])))) is in
-      omega (arith, none)
-  counts_by None (Some f) is = omega arith
-  counts_by None None is =
-      let more = commands-append calls.used b in
-      ap (λ cs. length (commands calls.used) + length cs) (completed-more commands calls.used b _ more)
-      ∙ sym (length-append (commands calls.used) _) ∙ sym (ap length more)
-
-  pub counts : length (commands calls.used) + length (new_commands rules calls b) ≡ length (commands (calls_after rules calls b).used)
-  unfolding Counts after_by used
-  counts = counts_by calls.end (operator_met rules.bytes (calls.used ++ b ∷ [])) refl
+pub counts : (rules : Rules) (operator_stream : OperatorStream) (b : ℕ)
+    → length (commands operator_stream.used) + length (new_commands rules operator_stream b) ≡ length (commands (stream_after rules operator_stream b).used)
+counts rules operator_stream b = sym (length-append (commands operator_stream.used) (new_commands rules operator_stream b)) ∙ sym (ap length (commands_grow rules operator_stream b))

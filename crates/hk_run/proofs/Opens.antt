@@ -7,13 +7,13 @@ use Rattle.hk_spec_settings.specs.Settings.{Rules}
 use Rattle.hk_spec_streams.specs.Records.{arrivals}
 use Rattle.hk_spec_streams.specs.Pieces.{pieces_within}
 use Rattle.hk_spec_matching.specs.Catalogue.{version}
-use Rattle.hk_records.specs.Reader.{HasRead, limit_of, stations_of}
+use Rattle.hk_records.specs.Reader.{HasRead, input_limit, stations_of}
 use Rattle.hk_records.proofs.Reading.{no_text}
 use Rattle.hk_probe.specs.Single.{Single, new_single, shelf_of}
 use Rattle.hk_spec_runs.specs.Listening.{unheard}
 use Rattle.hk_operator.specs.OnShelf.{IsOnShelf}
 use Rattle.hk_operator.specs.Sound.{IsFixed}
-use Rattle.hk_operator.specs.Obeying.{IsObeying, new_calls}
+use Rattle.hk_operator.specs.Obeying.{IsObeying, new_stream}
 use Rattle.hk_receiver.specs.Kept.{IsSetTo}
 use Rattle.hk_words.specs.Orders.{rules_meant, RulesFit}
 use Rattle.hk_words.specs.declared.order.RunRules.{RunRules}
@@ -33,8 +33,8 @@ new_on_shelf rules alone is = subst (λ (s : Single). IsOnShelf rules (shelf_of 
 pub is_fixed : (r : RunRules) → IsFixed (rules_meant r)
 is_fixed r = record { block_size = refl; errors = refl; analysis = refl }
 
-pub opens : (r : RunRules) (run : Run) → RulesFit r → HasRead run.reader [] → limit_of run.reader ≡ r.bytes → stations_of run.reader ≡ r.stations
-    → AreHearing (rules_meant r) 0 run.stations.items (replicate r.stations unheard) → IsObeying (rules_meant r) run.operator (shelf_of run.catalogue) new_calls new_state
+pub opens : (r : RunRules) (run : Run) → RulesFit r → HasRead run.reader [] → input_limit run.reader ≡ r.bytes → stations_of run.reader ≡ r.stations
+    → AreHearing (rules_meant r) 0 run.stations.items (replicate r.stations unheard) → IsObeying (rules_meant r) run.operator (shelf_of run.catalogue) new_stream new_state
     → HasPlayed (rules_meant r) run [] []
 unfolding arrivals pieces_within
 opens r run fits read limit stations hears obeys = record {

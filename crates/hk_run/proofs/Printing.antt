@@ -39,14 +39,14 @@ module _ (rules : Rules) (refused : List ℕ) where
     | Some l ↦ (reports rules n scene.state.journal l (if is_some l.end then l else heard rules (length scene.state.journal) l b), refl)
   ]
   arrived_prints scene (ForOperator b) =
-      let used : List ℕ = scene.calls.used ++ b ∷ [] in
-      let quiet : Scene = record scene { calls = record { used = used; end = None } } in
-      let going : Scene = fold (obeyed rules refused) quiet (enumerate_from (length (commands scene.calls.used) + 1) (completed commands used)) in
-      let over : WireFault → Scene = λ fault. record scene { calls = record { used = scene.calls.used; end = Some (op_ends.Wire fault) } } in
-      elim (is_some scene.calls.end) as (λ t. Prints scene (cond t scene (option_map_or over (operator_met rules.bytes used) going))) [
+      let used : List ℕ = scene.operator_stream.used ++ b ∷ [] in
+      let quiet : Scene = record scene { operator_stream = record { used = used; end = None } } in
+      let going : Scene = fold (obeyed rules refused) quiet (enumerate_from (length (commands scene.operator_stream.used) + 1) (completed commands used)) in
+      let over : WireFault → Scene = λ fault. record scene { operator_stream = record { used = scene.operator_stream.used; end = Some (op_ends.Wire fault) } } in
+      elim (is_some scene.operator_stream.end) as (λ t. Prints scene (cond t scene (option_map_or over (operator_met rules.bytes used) going))) [
         | true ↦ ([], sym (append-nil scene.printed))
         | false ↦ elim (operator_met rules.bytes used) as (λ o. Prints scene (option_map_or over o going)) [
-          | None ↦ obeyed_prints quiet (enumerate_from (length (commands scene.calls.used) + 1) (completed commands used))
+          | None ↦ obeyed_prints quiet (enumerate_from (length (commands scene.operator_stream.used) + 1) (completed commands used))
           | Some fault ↦ ([], sym (append-nil scene.printed))
         ]
       ]

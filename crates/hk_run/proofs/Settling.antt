@@ -14,12 +14,12 @@ use Rattle.hk_spec_lines.specs.Lines.{Replied}
 use Rattle.hk_spec_runs.specs.OperatorState.{refusals, answer, after, IsReply}
 use Rattle.hk_spec_settings.specs.Settings.{Rules}
 use Rattle.hk_spec_runs.specs.Replay.{Scene, OperatorStream, arrived, obeyed}
-use Rattle.hk_operator.specs.Obeying.{calls_after, new_commands}
+use Rattle.hk_operator.specs.Obeying.{stream_after, new_commands}
 use Rattle.hk_operator.proofs.Joining.{for_operator_is}
 use Rattle.hk_run.specs.Course.{scene_after}
-use Rattle.hk_run.specs.Holding.{with_calls}
+use Rattle.hk_run.specs.Holding.{with_stream}
 use Rattle.hk_run.specs.Playing.{Agree, IsSettled}
-use Rattle.hk_run.proofs.Hearing.{same_clerk}
+use Rattle.hk_run.proofs.Hearing.{same_stream}
 use Rattle.hk_run.proofs.Obeying.{counts}
 
 -- nothing has come
@@ -29,7 +29,7 @@ none_settled rules = record { none_ahead = λ m ahead. refl; same = λ others ag
 
 -- the number of commands so far
 abbrev pub so_far : Scene → ℕ
-so_far scene = length (commands scene.calls.used)
+so_far scene = length (commands scene.operator_stream.used)
 
 module _ (rules : Rules) (refused text : List ℕ) (settled : IsSettled rules refused text) where
   -- where the next scene is the same for all lists that refuse the same of the commands that came by then
@@ -50,41 +50,41 @@ module _ (rules : Rules) (refused text : List ℕ) (settled : IsSettled rules re
   pub station_settled : (longer : List ℕ) (k c : ℕ) → ((r : List ℕ) → scene_after rules r longer ≡ arrived rules r (scene_after rules r text) (ForStation k c)) → IsSettled rules refused longer
   station_settled longer k c is =
       let next : Scene = arrived rules refused (scene_after rules refused text) (ForStation k c) in
-      let calls : next.calls ≡ (scene_after rules refused text).calls = same_clerk rules (scene_after rules refused text) k c (slice_get (scene_after rules refused text).listeners k) in
+      let operator_stream : next.operator_stream ≡ (scene_after rules refused text).operator_stream = same_stream rules (scene_after rules refused text) k c (slice_get (scene_after rules refused text).listeners k) in
       settles longer next refused
       (λ others agree. is others ∙ ap (λ (s : Scene). arrived rules refused s (ForStation k c))
-      (settled.same others (subst (λ (calls : OperatorStream). Agree (length (commands calls.used)) others refused) calls agree)))
-      (subst (λ (calls : OperatorStream). (m : ℕ) → length (commands calls.used) < m → is_one_of refused m ≡ false) (sym calls) settled.none_ahead)
+      (settled.same others (subst (λ (operator_stream : OperatorStream). Agree (length (commands operator_stream.used)) others refused) operator_stream agree)))
+      (subst (λ (operator_stream : OperatorStream). (m : ℕ) → length (commands operator_stream.used) < m → is_one_of refused m ≡ false) (sym operator_stream) settled.none_ahead)
 
   module _ (longer : List ℕ) (c : ℕ) (is : (r : List ℕ) → scene_after rules r longer ≡ arrived rules r (scene_after rules r text) (ForOperator c)) where
     -- a byte that ends no command
-    quiet_scene : (r : List ℕ) → new_commands rules (scene_after rules refused text).calls c ≡ []
-        → arrived rules r (scene_after rules refused text) (ForOperator c) ≡ with_calls (scene_after rules refused text) (calls_after rules (scene_after rules refused text).calls c)
+    quiet_scene : (r : List ℕ) → new_commands rules (scene_after rules refused text).operator_stream c ≡ []
+        → arrived rules r (scene_after rules refused text) (ForOperator c) ≡ with_stream (scene_after rules refused text) (stream_after rules (scene_after rules refused text).operator_stream c)
     quiet_scene r none =
         for_operator_is rules r (scene_after rules refused text) c
-        ∙ ap (λ cs. fold (obeyed rules r) (with_calls (scene_after rules refused text) (calls_after rules (scene_after rules refused text).calls c)) (enumerate_from (so_far (scene_after rules refused text) + 1) cs)) none
+        ∙ ap (λ cs. fold (obeyed rules r) (with_stream (scene_after rules refused text) (stream_after rules (scene_after rules refused text).operator_stream c)) (enumerate_from (so_far (scene_after rules refused text) + 1) cs)) none
 
-    pub quiet_is : new_commands rules (scene_after rules refused text).calls c ≡ []
-        → scene_after rules refused longer ≡ with_calls (scene_after rules refused text) (calls_after rules (scene_after rules refused text).calls c)
+    pub quiet_is : new_commands rules (scene_after rules refused text).operator_stream c ≡ []
+        → scene_after rules refused longer ≡ with_stream (scene_after rules refused text) (stream_after rules (scene_after rules refused text).operator_stream c)
     quiet_is none = is refused ∙ quiet_scene refused none
 
-    pub quiet_settled : new_commands rules (scene_after rules refused text).calls c ≡ [] → IsSettled rules refused longer
+    pub quiet_settled : new_commands rules (scene_after rules refused text).operator_stream c ≡ [] → IsSettled rules refused longer
     quiet_settled none =
-        let sum : so_far (scene_after rules refused text) + length (new_commands rules (scene_after rules refused text).calls c) ≡ length (commands (calls_after rules (scene_after rules refused text).calls c).used) =
-        counts rules (scene_after rules refused text).calls c in
-        settles longer (with_calls (scene_after rules refused text) (calls_after rules (scene_after rules refused text).calls c)) refused
+        let sum : so_far (scene_after rules refused text) + length (new_commands rules (scene_after rules refused text).operator_stream c) ≡ length (commands (stream_after rules (scene_after rules refused text).operator_stream c).used) =
+        counts rules (scene_after rules refused text).operator_stream c in
+        settles longer (with_stream (scene_after rules refused text) (stream_after rules (scene_after rules refused text).operator_stream c)) refused
         (λ others agree. is others ∙ ap (λ (s : Scene). arrived rules others s (ForOperator c)) (settled.same others (λ m within. agree m (omega (arith, within, sum)))) ∙ quiet_scene others none)
         (λ m ahead. settled.none_ahead m (omega (arith, ahead, sum)))
 
     -- a byte that ends a command
-    module _ (command : Command) (one : new_commands rules (scene_after rules refused text).calls c ≡ command ∷ []) where
+    module _ (command : Command) (one : new_commands rules (scene_after rules refused text).operator_stream c ≡ command ∷ []) where
       -- the reply, by whether the command is refused for memory
       reply_by : Bool → What
       reply_by t = cond (t && not (is_some (first_that_holds (refusals rules (scene_after rules refused text).state command)))) (Refused NoMemory) (answer rules (scene_after rules refused text).state command)
 
       after_reply : What → Scene
       after_reply reply = record (scene_after rules refused text) {
-        calls = calls_after rules (scene_after rules refused text).calls c;
+        operator_stream = stream_after rules (scene_after rules refused text).operator_stream c;
         state = after rules (scene_after rules refused text).state command reply;
         printed = (scene_after rules refused text).printed ++ Replied (so_far (scene_after rules refused text) + 1) reply ∷ [];
       }
@@ -94,11 +94,11 @@ module _ (rules : Rules) (refused text : List ℕ) (settled : IsSettled rules re
       unfolding after_reply reply_by
       command_scene r reply replies =
           for_operator_is rules r (scene_after rules refused text) c
-          ∙ ap (λ cs. fold (obeyed rules r) (with_calls (scene_after rules refused text) (calls_after rules (scene_after rules refused text).calls c)) (enumerate_from (so_far (scene_after rules refused text) + 1) cs)) one
+          ∙ ap (λ cs. fold (obeyed rules r) (with_stream (scene_after rules refused text) (stream_after rules (scene_after rules refused text).operator_stream c)) (enumerate_from (so_far (scene_after rules refused text) + 1) cs)) one
           ∙ ap after_reply replies
 
-      one_more : so_far (scene_after rules refused text) + 1 ≡ length (commands (calls_after rules (scene_after rules refused text).calls c).used)
-      one_more = ap (λ cs. so_far (scene_after rules refused text) + length cs) (sym one) ∙ counts rules (scene_after rules refused text).calls c
+      one_more : so_far (scene_after rules refused text) + 1 ≡ length (commands (stream_after rules (scene_after rules refused text).operator_stream c).used)
+      one_more = ap (λ cs. so_far (scene_after rules refused text) + length cs) (sym one) ∙ counts rules (scene_after rules refused text).operator_stream c
 
       -- A list that refuses this command where the reply says so, and else what the list did.
       record Choice (reply : What) (r : List ℕ) : Type 0 where
@@ -151,7 +151,7 @@ module _ (rules : Rules) (refused text : List ℕ) (settled : IsSettled rules re
       -- the scene after the reply, for some list of refused commands
       pub reply_settled : (reply : What) → IsReply rules (scene_after rules refused text).state command reply → (r : List ℕ) × IsSettled rules r longer
           × (scene_after rules r longer ≡ record (scene_after rules refused text) {
-            calls = calls_after rules (scene_after rules refused text).calls c;
+            operator_stream = stream_after rules (scene_after rules refused text).operator_stream c;
             state = after rules (scene_after rules refused text).state command reply;
             printed = (scene_after rules refused text).printed ++ Replied (so_far (scene_after rules refused text) + 1) reply ∷ [];
           })

@@ -3,7 +3,7 @@ use Rattle.std.proofs.Common.{◌≡◌, ℕ, zero, suc, ◌+◌, List, [], ◌�
 use Rattle.std.specs.Prelude.{slice_get, slice_set, unwrap_or}
 use Rattle.hk_spec_settings.specs.Settings.{Rules}
 use Rattle.hk_spec_runs.specs.Replay.{Listener}
-use Rattle.hk_station.specs.Hearing.{IsHearing, number_of}
+use Rattle.hk_station.specs.Hearing.{IsHearing, station_number}
 use Rattle.hk_station.specs.declared.station.Station.{Station}
 use Rattle.hk_run.specs.Holding.{Numbered, AreHearing}
 
@@ -55,10 +55,10 @@ pub record Found (rules : Rules) (n : ℕ) (station : Station) (listeners : List
   pub listener : Listener
   pub there : slice_get listeners i ≡ Some listener
   pub hears : IsHearing rules station listener
-  pub number : number_of station ≡ n + i
+  pub number : station_number station ≡ n + i
 
 Hears : Rules → ℕ → Station → Listener → Type 0
-Hears rules i station l = IsHearing rules station l × (number_of station ≡ i)
+Hears rules i station l = IsHearing rules station l × (station_number station ≡ i)
 
 pub found : (rules : Rules) (n : ℕ) (stations : List Station) (listeners : List Listener) (i : ℕ) (station : Station) → AreHearing rules n stations listeners
     → slice_get stations i ≡ Some station → Found rules n station listeners i
@@ -68,12 +68,12 @@ found rules n stations listeners i station h is =
     record { listener = f.0; there = f.1; hears = f.2.0; number = f.2.1 }
 
 pub exchanged : (rules : Rules) (n : ℕ) (stations : List Station) (listeners : List Listener) (i : ℕ) (station : Station) (l : Listener) → AreHearing rules n stations listeners
-    → IsHearing rules station l → number_of station ≡ n + i → AreHearing rules n (slice_set stations i station) (slice_set listeners i l)
+    → IsHearing rules station l → station_number station ≡ n + i → AreHearing rules n (slice_set stations i station) (slice_set listeners i l)
 unfolding Hears
 exchanged rules n stations listeners i station l h hears number = exchange (Hears rules) n stations listeners i station l h (hears, number)
 
 pub joined : (rules : Rules) (n : ℕ) (stations : List Station) (listeners : List Listener) (station : Station) (l : Listener) → AreHearing rules n stations listeners
-    → IsHearing rules station l → number_of station ≡ n + length stations → AreHearing rules n (stations ++ station ∷ []) (listeners ++ l ∷ [])
+    → IsHearing rules station l → station_number station ≡ n + length stations → AreHearing rules n (stations ++ station ∷ []) (listeners ++ l ∷ [])
 unfolding Hears
 joined rules n stations listeners station l h hears number = join (Hears rules) n stations listeners station l h (hears, number)
 

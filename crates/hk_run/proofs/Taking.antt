@@ -14,7 +14,7 @@ use Rattle.hk_spec_settings.specs.Settings.{Rules}
 use Rattle.hk_spec_runs.specs.Outcome.{task_of}
 use Rattle.hk_spec_runs.specs.Replay.{Scene, scene_of}
 use Rattle.hk_spec_runs.specs.Words.{Replay}
-use Rattle.hk_records.specs.Reader.{HasRead, came_at, limit_of, stations_of}
+use Rattle.hk_records.specs.Reader.{HasRead, came_at, input_limit, stations_of}
 use Rattle.hk_records.specs.declared.reader.Came.{Came}
 use Rattle.hk_records.specs.declared.reader.RecordReader.{RecordReader}
 use Rattle.hk_base.proofs.Taking.{Wrote-nothing}
@@ -36,17 +36,17 @@ held_by rules run run' scene stations operators catalogues h = record { hears = 
 
 module _ (rules : Rules) (run : Run) (refused text : List ℕ) (byte : ℕ) (h : HasPlayed rules run refused text) where
   -- what the reader tells, as the definitions have it
-  pub came_is : (told : Came) → told ≡ came_at (stations_of run.reader) (limit_of run.reader) (text ++ byte ∷ []) → came_at rules.stations rules.bytes (text ++ byte ∷ []) ≡ told
+  pub came_is : (told : Came) → told ≡ came_at (stations_of run.reader) (input_limit run.reader) (text ++ byte ∷ []) → came_at rules.stations rules.bytes (text ++ byte ∷ []) ≡ told
   came_is told is =
       ap (λ s. came_at s rules.bytes (text ++ byte ∷ [])) (sym h.stations) ∙ ap (λ l. came_at (stations_of run.reader) l (text ++ byte ∷ [])) (sym h.limit) ∙ sym is
 
-  module _ (reader : RecordReader) (read : HasRead reader (text ++ byte ∷ [])) (limit : limit_of reader ≡ limit_of run.reader) (stations : stations_of reader ≡ stations_of run.reader) where
+  module _ (reader : RecordReader) (read : HasRead reader (text ++ byte ∷ [])) (limit : input_limit reader ≡ input_limit run.reader) (stations : stations_of reader ≡ stations_of run.reader) where
     -- the run goes on with the scene of some list of refused commands
     pub plays_on : (run' : Run) (refused' : List ℕ) (next : Scene) → input_met rules.stations rules.bytes (text ++ byte ∷ []) ≡ None → run'.reader ≡ reader → scene_after rules refused' (text ++ byte ∷ []) ≡ next
         → IsSettled rules refused' (text ++ byte ∷ []) → Holds rules run' next → HasPlayed rules run' refused' (text ++ byte ∷ [])
     plays_on run' refused' next none readers is settled holds = record {
       read = rw readers read;
-      limit = ap limit_of readers ∙ limit ∙ h.limit;
+      limit = ap input_limit readers ∙ limit ∙ h.limit;
       stations = ap stations_of readers ∙ stations ∙ h.stations;
       in_form = record {
         reads = refl;

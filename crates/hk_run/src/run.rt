@@ -5,7 +5,7 @@ ghost use Rattle.hk_spec_streams.specs.Operator.{Command, Publish, commands};
 ghost use Rattle.hk_spec_streams.specs.Records.{ForStation};
 ghost use Rattle.hk_spec_runs.specs.OperatorState.{IsReply, after};
 ghost use Rattle.hk_spec_runs.specs.Replay.{arrived};
-ghost use Rattle.hk_operator.specs.Obeying.{calls_after, new_commands};
+ghost use Rattle.hk_operator.specs.Obeying.{stream_after, new_commands};
 ghost use Rattle.hk_words.specs.Orders.{rules_meant, RulesFit};
 ghost use Rattle.hk_run.specs.Course.{operator_ended, taken_of};
 
@@ -53,7 +53,7 @@ fn is_in_order(end: OpEnd) -> bool
 
 impl Run {
     ghost use Rattle.hk_run.specs.Playing.{HasPlayed};
-    ghost use Rattle.hk_run.specs.Holding.{ForHeld, Holds, with_calls, with_desk};
+    ghost use Rattle.hk_run.specs.Holding.{ForHeld, Holds, with_stream, with_state};
     ghost use Rattle.hk_run.specs.Playing.{AddsScene, AddsSceneFront};
 
     /// A run before its first byte. It takes all memory that its streams and looks need.
@@ -106,11 +106,11 @@ impl Run {
 
     // A byte of the operator's stream: the reply to the command that it ends.
     fn obey(&mut self, byte: u8) -> Option<Reply>
-        ensures quiet { result ≡ None → ForHeld self.old (λ rules scene. (new_commands rules scene.calls byte ≡ [])
-            × Holds rules self.new (with_calls scene (calls_after rules scene.calls byte))) }
-        ensures replies { IfSome result (λ reply. ForHeld self.old (λ rules scene. (command : Command) × (new_commands rules scene.calls byte ≡ command ∷ [])
-            × (reply.number ≡ length (commands scene.calls.used) + 1) × IsReply rules scene.state command reply.what
-            × Holds rules self.new (with_desk (with_calls scene (calls_after rules scene.calls byte)) (after rules scene.state command reply.what)))) }
+        ensures quiet { result ≡ None → ForHeld self.old (λ rules scene. (new_commands rules scene.operator_stream byte ≡ [])
+            × Holds rules self.new (with_stream scene (stream_after rules scene.operator_stream byte))) }
+        ensures replies { IfSome result (λ reply. ForHeld self.old (λ rules scene. (command : Command) × (new_commands rules scene.operator_stream byte ≡ command ∷ [])
+            × (reply.number ≡ length (commands scene.operator_stream.used) + 1) × IsReply rules scene.state command reply.what
+            × Holds rules self.new (with_state (with_stream scene (stream_after rules scene.operator_stream byte)) (after rules scene.state command reply.what)))) }
         ensures reader_stays { self.new.reader ≡ self.old.reader }
         ensures rules_stay { self.new.rules ≡ self.old.rules }
     {
@@ -127,7 +127,7 @@ impl Run {
     // Publishes what is staged, or tells that no version is left.
     fn publish(&mut self) -> What
         ensures published { ForHeld self.old (λ rules scene. IsReply rules scene.state Publish result
-            × Holds rules self.new (with_desk scene (after rules scene.state Publish result))) }
+            × Holds rules self.new (with_state scene (after rules scene.state Publish result))) }
         ensures reader_stays { self.new.reader ≡ self.old.reader }
         ensures rules_stay { self.new.rules ≡ self.old.rules }
     {
@@ -146,6 +146,15 @@ impl Player for Run {
     ghost task = { λ run. task_of (Replay (rules_meant run.rules)) };
 
     ghost has_played = { λ run refused text. HasPlayed (rules_meant run.rules) run refused text };
+
+    ghost use Rattle.hk_records.specs.Reader.{trouble_met};
+
+    ghost fault = { λ run. trouble_met run.reader };
+
+    // Each byte of a record goes by itself.
+    fn listen(&mut self, _piece: &[u8]) -> usize {
+        0
+    }
 
     fn take<K: Sink, L: Ledger>(&mut self, byte: u8, out: &mut K, steps: &mut Steps<L>) -> Taken {
         match self.reader.push(byte) {
@@ -183,4 +192,6 @@ impl Player for Run {
     }
 
     ghost in_form = { λ run refused text h. h.in_form };
+
+    ghost none_met = { λ run refused text h. h.read.none_met };
 }

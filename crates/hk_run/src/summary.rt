@@ -5,7 +5,7 @@ ghost use Rattle.hk_base.specs.Writing.{HasWritten, HasFailed};
 ghost use Rattle.hk_spec_settings.specs.Settings.{Rules};
 ghost use Rattle.hk_spec_runs.specs.Replay.{Listener};
 ghost use Rattle.hk_run.specs.Holding.{AreHearing, ForListeners};
-ghost use Rattle.hk_station.specs.Hearing.{ForEach, number_of};
+ghost use Rattle.hk_station.specs.Hearing.{ForEach, station_number};
 ghost use Rattle.hk_run.specs.Course.{listener_line, station_lines, is_ended, is_in_order, all_ended};
 
 use hk_base::{End, Failed, Sink};
@@ -14,9 +14,9 @@ use hk_station::Station;
 
 // Ends a station and writes its line. Answers whether it ended in order.
 fn write_end<K: Sink>(station: &mut Station, out: &mut K) -> Result<bool, Failed>
-    ensures whole { OnOk result (ForEach station.old (λ rules l. HasWritten K.Sink (listener_line rules (number_of station.old, l)) out.old out.new)) }
+    ensures whole { OnOk result (ForEach station.old (λ rules l. HasWritten K.Sink (listener_line rules (station_number station.old, l)) out.old out.new)) }
     ensures ended { IfOk result (λ ended. ForEach station.old (λ rules l. ended ≡ is_in_order rules l)) }
-    ensures torn { OnErr result (ForEach station.old (λ rules l. HasFailed K.Sink (listener_line rules (number_of station.old, l)) out.old out.new)) }
+    ensures torn { OnErr result (ForEach station.old (λ rules l. HasFailed K.Sink (listener_line rules (station_number station.old, l)) out.old out.new)) }
     ensures cause { OnErr result (Rose (K.faults out.old) (K.faults out.new)) }
     ensures counts_failures { OnOk result (K.faults out.new ≡ K.faults out.old) }
 {

@@ -70,16 +70,16 @@ module _ (rules : Rules) where
   -- a summary tells whether all streams ended in order
   pub summary_tells : (scene : Scene) → EndsTell rules scene → Told rules scene
   summary_tells scene kept =
-      let last : Bool = is_none scene.calls.end && is_none (operator_wrong rules.bytes scene.calls.used) in
+      let last : Bool = is_none scene.operator_stream.end && is_none (operator_wrong rules.bytes scene.operator_stream.used) in
       let long : length (map in_order scene.listeners ++ last ∷ []) ≡ length (map in_order scene.listeners) + 1 = length-append (map in_order scene.listeners) (last ∷ []) in
       let each : length (map in_order scene.listeners) ≡ length scene.listeners = length-map scene.listeners in_order in
       record {
         told = map in_order scene.listeners ++ last ∷ [];
         has = HasNewlines-append (flat_map line_of (enumerate_from 0 scene.listeners))
-            (operator_line (length (commands scene.calls.used)) (length scene.state.journal) (operator_end_of rules scene.calls))
+            (operator_line (length (commands scene.operator_stream.used)) (length scene.state.journal) (operator_end_of rules scene.operator_stream))
             (map in_order scene.listeners) (last ∷ [])
             (lines_have 0 scene.listeners kept.listeners)
-            (operator_line_has (length (commands scene.calls.used)) (length scene.state.journal) scene.calls.end (operator_wrong rules.bytes scene.calls.used) kept.calls);
+            (operator_line_has (length (commands scene.operator_stream.used)) (length scene.state.journal) scene.operator_stream.end (operator_wrong rules.bytes scene.operator_stream.used) kept.operator_stream);
         as_many = omega (arith, long, each, kept.as_many);
-        all = tested (λ (l : Listener). is_none l.end) (λ (l : Listener). is_none (station_wrong rules.bytes l.used)) scene.listeners (is_none scene.calls.end) (is_none (operator_wrong rules.bytes scene.calls.used));
+        all = tested (λ (l : Listener). is_none l.end) (λ (l : Listener). is_none (station_wrong rules.bytes l.used)) scene.listeners (is_none scene.operator_stream.end) (is_none (operator_wrong rules.bytes scene.operator_stream.used));
       }

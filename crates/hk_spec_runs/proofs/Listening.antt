@@ -33,7 +33,7 @@ module _ (rules : Rules) where
       ap (λ rest. here ++ rest) (lines_over-append station (after_one rules l x) xs ys)
       ∙ sym (append_assoc here (lines_over rules station (after_one rules l x) xs) (lines_over rules station (after rules (after_one rules l x) xs) ys))
 
-  looks_over-append : (l : Listener) (xs ys : List Instant) → looks_over rules l (xs ++ ys) ≡ looks_over rules l xs ++ looks_over rules (after rules l xs) ys
+  pub looks_over-append : (l : Listener) (xs ys : List Instant) → looks_over rules l (xs ++ ys) ≡ looks_over rules l xs ++ looks_over rules (after rules l xs) ys
   looks_over-append l [] ys = refl
   looks_over-append l (x ∷ xs) ys =
       let here : List ℕ = looks_gained rules x.version l x.byte in

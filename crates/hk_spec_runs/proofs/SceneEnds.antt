@@ -22,9 +22,9 @@ EndsOtherwise l = l.end ≡ Some ends.Ended → ⊥
 pub record EndsTell (rules : Rules) (scene : Scene) : Type 0 where
   pub as_many : length scene.listeners ≡ rules.stations
   pub listeners : AllByRecursion EndsOtherwise scene.listeners
-  pub calls : scene.calls.end ≡ Some op_ends.Ended → ⊥
+  pub operator_stream : scene.operator_stream.end ≡ Some op_ends.Ended → ⊥
 
-fold_keeps : {A B : Type 0} (P : B → Type 0) (f : B → A → B) → ((b : B) (x : A) → P b → P (f b x)) → (b : B) (xs : List A) → P b → P (fold f b xs)
+pub fold_keeps : {A B : Type 0} (P : B → Type 0) (f : B → A → B) → ((b : B) (x : A) → P b → P (f b x)) → (b : B) (xs : List A) → P b → P (fold f b xs)
 fold_keeps P f step b [] p = p
 fold_keeps P f step b (x ∷ xs) p = fold_keeps P f step (f b x) xs (step b x p)
 
@@ -66,27 +66,27 @@ module _ (rules : Rules) where
         as_many = length-set scene.listeners station now ∙ kept.as_many;
         listeners = one_exchanged EndsOtherwise scene.listeners station now kept.listeners
             (one_or_other EndsOtherwise (is_some l.end) l (heard rules v l byte) (one_of EndsOtherwise scene.listeners station l kept.listeners is) (heard_ends v l byte));
-        calls = kept.calls;
+        operator_stream = kept.operator_stream;
       }
 
   obeyed_keeps : (refused : List ℕ) (scene : Scene) (c : ℕ × Command) → EndsTell rules scene → EndsTell rules (obeyed rules refused scene c)
-  obeyed_keeps refused scene c kept = record { as_many = kept.as_many; listeners = kept.listeners; calls = kept.calls }
+  obeyed_keeps refused scene c kept = record { as_many = kept.as_many; listeners = kept.listeners; operator_stream = kept.operator_stream }
 
-  with_calls : (scene : Scene) (calls : OperatorStream) → EndsTell rules scene → (calls.end ≡ Some op_ends.Ended → ⊥) → EndsTell rules (record scene { calls = calls })
-  with_calls scene calls kept other = record { as_many = kept.as_many; listeners = kept.listeners; calls = other }
+  with_calls : (scene : Scene) (operator_stream : OperatorStream) → EndsTell rules scene → (operator_stream.end ≡ Some op_ends.Ended → ⊥) → EndsTell rules (record scene { operator_stream = operator_stream })
+  with_calls scene operator_stream kept other = record { as_many = kept.as_many; listeners = kept.listeners; operator_stream = other }
 
   by_operator_fault : (scene now : Scene) (met : Option WireFault) → EndsTell rules scene → EndsTell rules now
-      → EndsTell rules (option_map_or (λ fault. record scene { calls = record { used = scene.calls.used; end = Some (op_ends.Wire fault) } }) met now)
+      → EndsTell rules (option_map_or (λ fault. record scene { operator_stream = record { used = scene.operator_stream.used; end = Some (op_ends.Wire fault) } }) met now)
   by_operator_fault scene now None kept later = later
-  by_operator_fault scene now (Some fault) kept later = with_calls scene (record { used = scene.calls.used; end = Some (op_ends.Wire fault) }) kept (λ is. cc)
+  by_operator_fault scene now (Some fault) kept later = with_calls scene (record { used = scene.operator_stream.used; end = Some (op_ends.Wire fault) }) kept (λ is. cc)
 
   operator_keeps : (refused : List ℕ) (scene : Scene) (byte : ℕ) → EndsTell rules scene → EndsTell rules (for_operator rules refused scene byte)
   operator_keeps refused scene byte kept =
-      let used : List ℕ = scene.calls.used ++ byte ∷ [] in
-      let begun : Scene = record scene { calls = record { used = used; end = None } } in
-      one_or_other (EndsTell rules) (is_some scene.calls.end) scene _ kept
+      let used : List ℕ = scene.operator_stream.used ++ byte ∷ [] in
+      let begun : Scene = record scene { operator_stream = record { used = used; end = None } } in
+      one_or_other (EndsTell rules) (is_some scene.operator_stream.end) scene _ kept
       (by_operator_fault scene _ (operator_met rules.bytes used) kept
-      (fold_keeps (EndsTell rules) (obeyed rules refused) (obeyed_keeps refused) begun (enumerate_from (length (commands scene.calls.used) + 1) (completed commands used))
+      (fold_keeps (EndsTell rules) (obeyed rules refused) (obeyed_keeps refused) begun (enumerate_from (length (commands scene.operator_stream.used) + 1) (completed commands used))
       (with_calls scene (record { used = used; end = None }) kept (λ is. cc))))
 
   arrived_keeps : (refused : List ℕ) (scene : Scene) (a : Arrival) → EndsTell rules scene → EndsTell rules (arrived rules refused scene a)
@@ -97,7 +97,7 @@ module _ (rules : Rules) where
   opening_kept = record {
     as_many = length-replicate rules.stations (record { used = []; version = 0; end = None });
     listeners = all_alike EndsOtherwise rules.stations (record { used = []; version = 0; end = None }) (λ is. cc);
-    calls = λ is. cc;
+    operator_stream = λ is. cc;
   }
 
   -- so it is in each scene of a run

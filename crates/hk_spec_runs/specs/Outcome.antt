@@ -32,7 +32,7 @@ pub record Task : Type 0 where
 abbrev pub has_ended : Rules → Scene → Bool
 has_ended rules scene =
     list_all (λ l. is_none l.end) scene.listeners && list_all (λ l. is_none (station_wrong rules.bytes l.used)) scene.listeners
-    && is_none scene.calls.end && is_none (operator_wrong rules.bytes scene.calls.used)
+    && is_none scene.operator_stream.end && is_none (operator_wrong rules.bytes scene.operator_stream.used)
 
 abbrev pub over_limit : Printing → List ℕ → Option Trouble
 over_limit p input = if nat_lt p.bytes (length input) then Some (TooLong p.bytes) else None

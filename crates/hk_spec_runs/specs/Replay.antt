@@ -35,7 +35,7 @@ pub record OperatorStream : Type 0 where
 -- the run so far: each station, the operator, the state, and what was printed
 pub record Scene : Type 0 where
   pub listeners : List Listener
-  pub calls : OperatorStream
+  pub operator_stream : OperatorStream
   pub state : OperatorState
   pub printed : List Printed
 
@@ -98,12 +98,12 @@ module _ (rules : Rules) where
 
   abbrev pub for_operator : List ℕ → Scene → ℕ → Scene
   for_operator refused scene byte =
-      let used = scene.calls.used ++ byte ∷ [] in
-      if is_some scene.calls.end then scene else
-      option_map_or (λ fault. record scene { calls = record { used = scene.calls.used; end = Some (op_ends.Wire fault) } })
+      let used = scene.operator_stream.used ++ byte ∷ [] in
+      if is_some scene.operator_stream.end then scene else
+      option_map_or (λ fault. record scene { operator_stream = record { used = scene.operator_stream.used; end = Some (op_ends.Wire fault) } })
       (operator_met rules.bytes used)
-      (fold (obeyed refused) (record scene { calls = record { used = used; end = None } })
-      (enumerate_from (length (commands scene.calls.used) + 1) (completed commands used)))
+      (fold (obeyed refused) (record scene { operator_stream = record { used = used; end = None } })
+      (enumerate_from (length (commands scene.operator_stream.used) + 1) (completed commands used)))
 
   -- one byte of the input; a byte for a stream that is over is skipped
   abbrev pub arrived : List ℕ → Scene → Arrival → Scene
@@ -113,7 +113,7 @@ module _ (rules : Rules) where
   abbrev pub opening : Scene
   opening = record {
     listeners = replicate rules.stations (record { used = []; version = 0; end = None });
-    calls = record { used = []; end = None };
+    operator_stream = record { used = []; end = None };
     state = new_state;
     printed = [];
   }
@@ -131,13 +131,13 @@ module _ (rules : Rules) where
   end_of l = unwrap_or l.end (option_map_or (λ fault. ends.Wire fault) (station_wrong rules.bytes l.used) ends.Ended)
 
   abbrev pub operator_end_of : OperatorStream → OpEnd
-  operator_end_of calls = unwrap_or calls.end (option_map_or (λ fault. op_ends.Wire fault) (operator_wrong rules.bytes calls.used) op_ends.Ended)
+  operator_end_of operator_stream = unwrap_or operator_stream.end (option_map_or (λ fault. op_ends.Wire fault) (operator_wrong rules.bytes operator_stream.used) op_ends.Ended)
 
   -- the stations' lines, and then the operator's
   abbrev pub summary : Scene → List ℕ
   summary scene =
       flat_map (λ p. station_line p.0 (length (blocks rules.setting p.1.used)) p.1.version (end_of p.1)) (enumerate_from 0 scene.listeners)
-      ++ operator_line (length (commands scene.calls.used)) (length (at_end scene.state).journal) (operator_end_of scene.calls)
+      ++ operator_line (length (commands scene.operator_stream.used)) (length (at_end scene.state).journal) (operator_end_of scene.operator_stream)
 
   -- all that a replay prints where its input has no fault
   unfoldable pub replay : List ℕ → List ℕ → List ℕ

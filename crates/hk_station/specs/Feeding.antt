@@ -6,7 +6,7 @@ use Rattle.hk_spec_runs.specs.Listening.{Instant, after, Gives, GivesOne}
 use Rattle.hk_block.specs.Looker.{LookerView, Looks}
 use Rattle.hk_block.specs.declared.looker.Looker as lookers
 use Rattle.hk_station.specs.declared.station.Station.{Station}
-use Rattle.hk_station.specs.Hearing.{IsHearing, ForEach, number_of, lines_of, version_of}
+use Rattle.hk_station.specs.Hearing.{IsHearing, ForEach, station_number, lines_written, version_of}
 
 -- a byte as it is heard with this view
 abbrev pub instant : LookerView → ℕ → Instant
@@ -23,9 +23,9 @@ module _ {V K : Type 0} (looker : lookers.Ghosts V) (sink : sinks.Ghosts K) wher
     pub looks : Looks answers (looker.looker view) (looker.looker view')
     pub idle : answers ≡ [] → view' ≡ view
     pub bound : ticks' ≤ ticks + steps
-    pub number : number_of new ≡ number_of old
+    pub number : station_number new ≡ station_number old
     pub hears : ForEach old (λ rules l. IsHearing rules new (after rules l instants)
-        × Gives rules (number_of old) (looker.looker view).room l instants text answers steps (looker.looker view').past)
+        × Gives rules (station_number old) (looker.looker view).room l instants text answers steps (looker.looker view').past)
 
   -- At this instant the write of a block's line failed. The line isn't counted, but its look was made.
   pub record IsTorn (i : Instant) (old new : Station) (view view' : V) (log log' : K) (ticks ticks' : ℕ) : Type 0 where
@@ -35,10 +35,10 @@ module _ {V K : Type 0} (looker : lookers.Ghosts V) (sink : sinks.Ghosts K) wher
     pub looks : Looks (i.version ∷ []) (looker.looker view) (looker.looker view')
     pub at : i ≡ instant (looker.looker view') i.byte
     pub bound : ticks' ≤ ticks + steps
-    pub number : number_of new ≡ number_of old
-    pub lines : lines_of new ≡ lines_of old
+    pub number : station_number new ≡ station_number old
+    pub lines : lines_written new ≡ lines_written old
     pub version_is : version_of new ≡ i.version
-    pub hears : ForEach old (λ rules l. GivesOne rules (number_of old) (looker.looker view).room l i line steps)
+    pub hears : ForEach old (λ rules l. GivesOne rules (station_number old) (looker.looker view).room l i line steps)
 
   -- These instants were heard, and at the next one a write failed.
   pub record WasTorn (instants : List Instant) (torn : Instant) (old new : Station) (view view' : V) (log log' : K) (ticks ticks' : ℕ) : Type 0 where

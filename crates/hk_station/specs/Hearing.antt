@@ -7,12 +7,12 @@ use Rattle.hk_spec_runs.specs.Replay.{Listener}
 use Rattle.hk_receiver.specs.Received.{HasReceived}
 use Rattle.hk_station.specs.declared.station.Station.{Station}
 
-abbrev pub number_of : Station → ℕ
-number_of station = station.number
+abbrev pub station_number : Station → ℕ
+station_number station = station.number
 
 -- how many lines were written whole
-abbrev pub lines_of : Station → ℕ
-lines_of station = station.lines
+abbrev pub lines_written : Station → ℕ
+lines_written station = station.lines
 
 -- the version of the last look
 abbrev pub version_of : Station → ℕ

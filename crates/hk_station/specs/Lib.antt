@@ -1,3 +1,4 @@
 pub mod Feeding
 pub mod Hearing
 pub mod Outcome
+pub mod SinceStart

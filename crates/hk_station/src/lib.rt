@@ -6,10 +6,12 @@
 //! After `new` nothing here takes memory, and a block or a fence is never looked up twice.
 #![tactic(auto)]
 
+mod laws;
 mod station;
 #[cfg(test)]
 mod tests;
 
 pub use hk_base::{End, NoMemory, Sink, Steps};
 pub use hk_block::{Looker, Scratch};
+pub use laws::{log_since_start, pieces_join};
 pub use station::{Progress, Station};

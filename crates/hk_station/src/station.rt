@@ -11,7 +11,7 @@ ghost use Rattle.hk_spec_runs.specs.Listening.{Instant, bytes_in, unheard};
 ghost use Rattle.hk_block.specs.Ring.{is_full};
 ghost use Rattle.hk_block.specs.Looker.{Looks, matches_in, most_steps};
 ghost use Rattle.hk_receiver.specs.Kept.{MOST_BYTES, IsSetTo};
-ghost use Rattle.hk_receiver.specs.Received.{blocks_of, ring_of};
+ghost use Rattle.hk_receiver.specs.Received.{block_count, ring_of};
 
 use hk_base::{End, Head, NoMemory, Sink, Steps};
 use hk_block::{Looker, Scratch};
@@ -36,11 +36,11 @@ pub struct Station {
     lines: u64,
     version: u32,
     end: Option<End>,
-    ghost counted: { lines ≤ blocks_of receiver },
+    ghost counted: { lines ≤ block_count receiver },
 }
 
 impl Station {
-    ghost use Rattle.hk_station.specs.Hearing.{IsHearing, ForEach, number_of, lines_of, version_of, kept_end, Becomes};
+    ghost use Rattle.hk_station.specs.Hearing.{IsHearing, ForEach, station_number, lines_written, version_of, kept_end, Becomes};
     ghost use Rattle.hk_station.specs.Outcome.{progress_of, log_result, OnTorn, UnlessTorn, head_at};
     ghost use Rattle.hk_station.specs.Feeding.{instant, HasHeard, IsTorn, WasTorn};
 
@@ -58,7 +58,7 @@ impl Station {
         requires most { hop ≤ 256 }
         requires limit { limit ≤ MOST_BYTES }
         ensures unheard { IfOk result (λ station. (rules : Rules) → IsSetTo rules flips hop limit → IsHearing rules station unheard) }
-        ensures number { IfOk result (λ station. number_of station ≡ number) }
+        ensures number { IfOk result (λ station. station_number station ≡ number) }
     {
         match Receiver::new(alloc, flips, hop, limit) {
             Ok(receiver) => Ok(Station {
@@ -91,7 +91,7 @@ impl Station {
         ensures tells { result ≡ progress_of (kept_end self.new) }
         ensures over { (end : End) → kept_end self.old ≡ Some end → (self.new ≡ self.old) × (view.new ≡ view.old) × (log.new ≡ log.old) }
         ensures idle { (end : End) → kept_end self.old ≡ Some end → (scratch.new ≡ scratch.old) × (steps.new ≡ steps.old) }
-        ensures number_stays { number_of self.new ≡ number_of self.old }
+        ensures number_stays { station_number self.new ≡ station_number self.old }
         ensures scratch_room { scratch.new.room ≡ scratch.old.room }
     {
         if let Some(end) = self.end {
@@ -125,7 +125,7 @@ impl Station {
         ensures tells { result ≡ progress_of (kept_end self.new) }
         ensures over { (end : End) → kept_end self.old ≡ Some end → (self.new ≡ self.old) × (view.new ≡ view.old) × (log.new ≡ log.old) }
         ensures idle { (end : End) → kept_end self.old ≡ Some end → (scratch.new ≡ scratch.old) × (steps.new ≡ steps.old) }
-        ensures number_stays { number_of self.new ≡ number_of self.old }
+        ensures number_stays { station_number self.new ≡ station_number self.old }
         ensures scratch_room { scratch.new.room ≡ scratch.old.room }
     {
         if let Some(kept) = self.end {
@@ -178,8 +178,8 @@ impl Station {
         requires going { kept_end self.old ≡ None }
         requires room { (V.looker view.old).room ≤ scratch.old.room }
         requires full { IsTrue (is_full (ring_of self.old.receiver)) }
-        requires uncounted { self.old.lines < blocks_of self.old.receiver }
-        requires few { blocks_of self.old.receiver ≤ MOST_BYTES }
+        requires uncounted { self.old.lines < block_count self.old.receiver }
+        requires few { block_count self.old.receiver ≤ MOST_BYTES }
         ensures tells { result ≡ progress_of (kept_end self.new) }
         ensures writes { Writes K.Sink (line (head_at self.old (V.looker view.new).at) (matches_in (ring_of self.old.receiver) (V.looker view.new).songs))
             (log_result result) log.old log.new }
@@ -212,8 +212,8 @@ impl Station {
         ensures end { ForEach self.old (λ rules l. result ≡ end_of rules l) }
         ensures kept { kept_end self.new ≡ Some result }
         ensures over { (end : End) → kept_end self.old ≡ Some end → result ≡ end }
-        ensures number_stays { number_of self.new ≡ number_of self.old }
-        ensures lines_stay { lines_of self.new ≡ lines_of self.old }
+        ensures number_stays { station_number self.new ≡ station_number self.old }
+        ensures lines_stay { lines_written self.new ≡ lines_written self.old }
         ensures version_stays { version_of self.new ≡ version_of self.old }
     {
         if let Some(end) = self.end {
@@ -232,8 +232,8 @@ impl Station {
         ensures going { kept_end self.old ≡ None → result ≡ ends.ReadFault }
         ensures over { (end : End) → kept_end self.old ≡ Some end → result ≡ end }
         ensures kept { kept_end self.new ≡ Some result }
-        ensures number_stays { number_of self.new ≡ number_of self.old }
-        ensures lines_stay { lines_of self.new ≡ lines_of self.old }
+        ensures number_stays { station_number self.new ≡ station_number self.old }
+        ensures lines_stay { lines_written self.new ≡ lines_written self.old }
         ensures version_stays { version_of self.new ≡ version_of self.old }
     {
         self.stop(End::ReadFault)
@@ -244,8 +244,8 @@ impl Station {
         ensures going { kept_end self.old ≡ None → result ≡ ends.GateFault }
         ensures over { (end : End) → kept_end self.old ≡ Some end → result ≡ end }
         ensures kept { kept_end self.new ≡ Some result }
-        ensures number_stays { number_of self.new ≡ number_of self.old }
-        ensures lines_stay { lines_of self.new ≡ lines_of self.old }
+        ensures number_stays { station_number self.new ≡ station_number self.old }
+        ensures lines_stay { lines_written self.new ≡ lines_written self.old }
         ensures version_stays { version_of self.new ≡ version_of self.old }
     {
         self.stop(End::GateFault)
@@ -256,8 +256,8 @@ impl Station {
         ensures going { kept_end self.old ≡ None → result ≡ end }
         ensures over { (kept : End) → kept_end self.old ≡ Some kept → result ≡ kept }
         ensures kept { kept_end self.new ≡ Some result }
-        ensures number_stays { number_of self.new ≡ number_of self.old }
-        ensures lines_stay { lines_of self.new ≡ lines_of self.old }
+        ensures number_stays { station_number self.new ≡ station_number self.old }
+        ensures lines_stay { lines_written self.new ≡ lines_written self.old }
         ensures version_stays { version_of self.new ≡ version_of self.old }
     {
         if let Some(kept) = self.end {
@@ -276,14 +276,14 @@ impl Station {
 
     /// The station's number.
     pub fn number(&self) -> u8
-        ensures number { result ≡ number_of self.now }
+        ensures number { result ≡ station_number self.now }
     {
         self.number
     }
 
     /// How many blocks have their whole line in the log.
     pub fn blocks(&self) -> u64
-        ensures lines { result ≡ lines_of self.now }
+        ensures lines { result ≡ lines_written self.now }
         ensures all { ForEach self.now (λ rules l. result ≡ length (blocks rules.setting l.used)) }
     {
         self.lines

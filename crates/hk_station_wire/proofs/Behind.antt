@@ -28,7 +28,7 @@ use Rattle.hk_station_wire.specs.declared.reader.Reader.{Reader}
 use Rattle.hk_wire.specs.Held.{IsLast, gathered, length_in, length_size, is_over}
 use Rattle.hk_station_wire.specs.Items.{carries_prints}
 use Rattle.hk_station_wire.specs.Steps.{head_fault, part_of, left_of_print, print_outcome}
-use Rattle.hk_station_wire.specs.Taken.{StandsAfter, HasByte, Brings, unfinished_print}
+use Rattle.hk_station_wire.specs.Taken.{StandsAfter, HasByte, TellsItem, unfinished_print}
 use Rattle.hk_station_wire.proofs.MeetsFault.{met_packet, bad_print, sends_nothing, no_print, no_bad_print, true_isnt_false}
 use Rattle.hk_station_wire.proofs.Parts.{Says, says}
 use Rattle.hk_station_wire.proofs.LastItems.{carries_as_before, quiet_unfinished, other_item, gap_begin_item, gap_end_item, fence_item, sound_item, prints_item, same_channels, same_factor}
@@ -119,7 +119,7 @@ module _ (limit : ℕ) (text : List ℕ) (b : ℕ) (reader : Reader) (place coun
   quiet_met fine none = met_by fine ∙ ap (λ c. cond c (Some (BadMask place)) None) (no_bad_print text b (sends_nothing text b none))
 
   pub brings_other : (new : Reader) → head_fault place count kind packet_length ≡ None → part_of kind count ≡ Other
-      → new.form ≡ reader.form → new.packet ≡ reader.packet → new.group ≡ reader.group → Brings (Ok item.Nothing) new limit (text ++ b ∷ [])
+      → new.form ≡ reader.form → new.packet ≡ reader.packet → new.group ≡ reader.group → TellsItem (Ok item.Nothing) new limit (text ++ b ∷ [])
   brings_other new fine is same_form same_packet same_group =
       let by = tests Other is in (
         quiet_met fine by.data_test,
@@ -129,7 +129,7 @@ module _ (limit : ℕ) (text : List ℕ) (b : ℕ) (reader : Reader) (place coun
       )
 
   pub brings_gap_end : (new : Reader) → head_fault place count kind packet_length ≡ None → part_of kind count ≡ GapEnd
-      → new.form ≡ reader.form → new.packet ≡ reader.packet → new.group ≡ reader.group → Brings (Ok item.Gap) new limit (text ++ b ∷ [])
+      → new.form ≡ reader.form → new.packet ≡ reader.packet → new.group ≡ reader.group → TellsItem (Ok item.Gap) new limit (text ++ b ∷ [])
   brings_gap_end new fine is same_form same_packet same_group =
       let by = tests GapEnd is in (
         quiet_met fine by.data_test,
@@ -139,7 +139,7 @@ module _ (limit : ℕ) (text : List ℕ) (b : ℕ) (reader : Reader) (place coun
       )
 
   pub brings_gap_begin : (new : Reader) → head_fault place count kind packet_length ≡ None → part_of kind count ≡ GapBegin
-      → new.form ≡ reader.form → new.packet ≡ reader.packet → gathered new.group ≡ [] → Brings (Ok item.Nothing) new limit (text ++ b ∷ [])
+      → new.form ≡ reader.form → new.packet ≡ reader.packet → gathered new.group ≡ [] → TellsItem (Ok item.Nothing) new limit (text ++ b ∷ [])
   brings_gap_begin new fine is same_form same_packet empty =
       let by = tests GapBegin is in (
         quiet_met fine by.data_test,
@@ -149,7 +149,7 @@ module _ (limit : ℕ) (text : List ℕ) (b : ℕ) (reader : Reader) (place coun
 
   pub brings_fence : (new : Reader) (asked : ℕ) → head_fault place count kind packet_length ≡ None → part_of kind count ≡ FenceEnd
       → asked ≡ from_be_bytes w32 (drop 3 (last_packet (text ++ b ∷ [])))
-      → new.form ≡ reader.form → new.packet ≡ reader.packet → new.group ≡ reader.group → Brings (Ok (item.Fence asked)) new limit (text ++ b ∷ [])
+      → new.form ≡ reader.form → new.packet ≡ reader.packet → new.group ≡ reader.group → TellsItem (Ok (item.Fence asked)) new limit (text ++ b ∷ [])
   brings_fence new asked fine is asks same_form same_packet same_group =
       let by = tests FenceEnd is in (
         quiet_met fine by.data_test,
@@ -160,7 +160,7 @@ module _ (limit : ℕ) (text : List ℕ) (b : ℕ) (reader : Reader) (place coun
 
   -- a byte of sound
   pub brings_sound : (new : Reader) → head_fault place count kind packet_length ≡ None → part_of kind count ≡ Data → carries_prints text ≡ false
-      → new.form ≡ reader.form → new.packet ≡ reader.packet → new.group ≡ reader.group → Brings (Ok (item.Byte b)) new limit (text ++ b ∷ [])
+      → new.form ≡ reader.form → new.packet ≡ reader.packet → new.group ≡ reader.group → TellsItem (Ok (item.Byte b)) new limit (text ++ b ∷ [])
   brings_sound new fine is sound same_form same_packet same_group =
       let t : List ℕ = text ++ b ∷ [] in
       let by = tests Data is in
@@ -191,7 +191,7 @@ module _ (limit : ℕ) (text : List ℕ) (b : ℕ) (reader : Reader) (place coun
 
     part_brings : length (rest_of 8 (last_segment text)) < 7 → all_sent_prints (text ++ b ∷ []) ≡ all_sent_prints text
         → rest_of 8 (last_segment (text ++ b ∷ [])) ≡ rest_of 8 (last_segment text) ++ b ∷ []
-        → Brings (print_outcome place (take 12 (gathered reader.group ++ b ∷ []))) new limit (text ++ b ∷ [])
+        → TellsItem (print_outcome place (take 12 (gathered reader.group ++ b ∷ []))) new limit (text ++ b ∷ [])
     part_brings short same rest_after =
         let t : List ℕ = text ++ b ∷ [] in
         let bytes : List ℕ = rest_of 8 (last_segment text) ++ b ∷ [] in
@@ -200,7 +200,7 @@ module _ (limit : ℕ) (text : List ℕ) (b : ℕ) (reader : Reader) (place coun
         let print : Print = sent_print bytes in
         let outcome : print_outcome place (take 12 (gathered reader.group ++ b ∷ [])) ≡ Ok item.Nothing =
         ap (print_outcome place) held ∙ ap (λ c. cond c (Ok item.Nothing) (cond (nat_lt 10 (count_ones print.mask)) (Err (BadMask place)) (Ok (item.Print print)))) few in
-        let P : Result Item WireFault → Type 0 = λ r. Brings r new limit t in
+        let P : Result Item WireFault → Type 0 = λ r. TellsItem r new limit t in
         subst P (sym outcome) (
           met_by fine ∙ ap (λ c. cond c (Some (BadMask place)) None) (no_bad_print text b same),
           sym (prints_item text b behind (tests Data is) carries [] (no_print text b same)),
@@ -211,7 +211,7 @@ module _ (limit : ℕ) (text : List ℕ) (b : ℕ) (reader : Reader) (place coun
     whole_brings : length (rest_of 8 (last_segment text)) ≡ 7
         → all_sent_prints (text ++ b ∷ []) ≡ all_sent_prints text ++ sent_print (rest_of 8 (last_segment text) ++ b ∷ []) ∷ []
         → rest_of 8 (last_segment (text ++ b ∷ [])) ≡ []
-        → Brings (print_outcome place (take 12 (gathered reader.group ++ b ∷ []))) new limit (text ++ b ∷ [])
+        → TellsItem (print_outcome place (take 12 (gathered reader.group ++ b ∷ []))) new limit (text ++ b ∷ [])
     whole_brings full grown rest_after =
         let t : List ℕ = text ++ b ∷ [] in
         let bytes : List ℕ = rest_of 8 (last_segment text) ++ b ∷ [] in
@@ -225,7 +225,7 @@ module _ (limit : ℕ) (text : List ℕ) (b : ℕ) (reader : Reader) (place coun
         let sent : completed all_sent_prints t ≡ print ∷ [] = completed-more all_sent_prints text b (print ∷ []) grown in
         let bad : bad_print t ≡ (weak || false) =
         ap (list_any (has_bad_mask (channels_of t))) sent ∙ ap (λ c. (c && weak) || false) (carries_as_before text b behind ∙ carries) in
-        let P : Result Item WireFault → Type 0 = λ r. Brings r new limit t in
+        let P : Result Item WireFault → Type 0 = λ r. TellsItem r new limit t in
         elim (cases_Bool weak) [
           | inl many ↦ subst P (sym (outcome ∙ ap judge many))
               (met_by fine ∙ ap (λ c. cond c (Some (BadMask place)) None) (bad ∙ ap (λ c. c || false) many))
@@ -237,7 +237,7 @@ module _ (limit : ℕ) (text : List ℕ) (b : ℕ) (reader : Reader) (place coun
           )
         ]
 
-    brings_print : Brings (print_outcome place (take 12 (gathered reader.group ++ b ∷ []))) new limit (text ++ b ∷ [])
+    brings_print : TellsItem (print_outcome place (take 12 (gathered reader.group ++ b ∷ []))) new limit (text ++ b ∷ [])
     brings_print =
         let by = tests Data is in
         elim (next_prints text b) [
@@ -248,9 +248,9 @@ module _ (limit : ℕ) (text : List ℕ) (b : ℕ) (reader : Reader) (place coun
         ]
 
     pub brings_outcome : (outcome : Result Item WireFault) → outcome ≡ print_outcome place (take 12 (gathered reader.group ++ b ∷ []))
-        → Brings outcome new limit (text ++ b ∷ [])
+        → TellsItem outcome new limit (text ++ b ∷ [])
     brings_outcome outcome made =
-        let P : Result Item WireFault → Type 0 = λ r. Brings r new limit (text ++ b ∷ []) in
+        let P : Result Item WireFault → Type 0 = λ r. TellsItem r new limit (text ++ b ∷ []) in
         subst P (sym made) brings_print
 
 -- a reader whose packet has taken the next byte

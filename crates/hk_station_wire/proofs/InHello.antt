@@ -15,7 +15,7 @@ use Rattle.hk_wire.specs.declared.packet.LastPacket.{LastPacket}
 use Rattle.hk_station_wire.specs.declared.reader.Reader.{Reader}
 use Rattle.hk_wire.specs.Held.{IsLast, gathered}
 use Rattle.hk_station_wire.specs.Steps.{hello_allows}
-use Rattle.hk_station_wire.specs.Taken.{StandsAfter, Brings}
+use Rattle.hk_station_wire.specs.Taken.{StandsAfter, TellsItem}
 use Rattle.hk_station_wire.proofs.LastItems.{hello_item, hello_packet, hello_unfinished}
 use Rattle.hk_station_wire.proofs.MeetsFault.{met_hello}
 
@@ -55,7 +55,7 @@ pub hello_brings : (limit : ℕ) (text : List ℕ) (b : ℕ) (old new : Reader) 
     → StandsAfter old text → hello_allows (length text) old.form.channels b ≡ true → new.packet ≡ old.packet → new.group ≡ old.group
     → (4 < length text + 1 → new.form.channels ≡ channels_of (text ++ b ∷ [])) → (5 < length text + 1 → new.form.factor ≡ factor_of (text ++ b ∷ []))
     → brought ≡ cond (length text == 5) (item.Hello (form_of (text ++ b ∷ []))) item.Nothing
-    → Brings (Ok brought) new limit (text ++ b ∷ [])
+    → TellsItem (Ok brought) new limit (text ++ b ∷ [])
 hello_brings limit text b old new brought early room stands allowed same_packet same_group channels factor is =
     let t : List ℕ = text ++ b ∷ [] in
     let long : length (text ++ b ∷ []) ≡ length text + 1 = length-append text (b ∷ []) in

@@ -34,17 +34,17 @@ pub record HasByte (reader : Reader) (text : List ℕ) (byte : ℕ) : Type 0 whe
   pub group : gathered reader.group ≡ unfinished_print text
 
 -- the last byte of a text without a fault before it: what it brings, or the fault that it meets
-abbrev pub Brings : Result Item WireFault → Reader → ℕ → List ℕ → Type 0
-Brings (Ok item) reader limit text = (station_met limit text ≡ None) × (item ≡ item_of text) × StandsAfter reader text
-Brings (Err fault) reader limit text = station_met limit text ≡ Some fault
+abbrev pub TellsItem : Result Item WireFault → Reader → ℕ → List ℕ → Type 0
+TellsItem (Ok item) reader limit text = (station_met limit text ≡ None) × (item ≡ item_of text) × StandsAfter reader text
+TellsItem (Err fault) reader limit text = station_met limit text ≡ Some fault
 
 -- at most so many bytes are taken
 abbrev pub limit_of : Wire → ℕ
 limit_of wire = wire.passage.limit
 
 -- how many bytes were taken before the fault, or in all
-abbrev pub taken_of : Wire → ℕ
-taken_of wire = wire.passage.taken
+abbrev pub count_taken : Wire → ℕ
+count_taken wire = wire.passage.taken
 
 -- the fault that the wire has met
 abbrev pub fault_met : Wire → Option WireFault

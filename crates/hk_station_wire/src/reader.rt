@@ -8,6 +8,7 @@ ghost use Rattle.hk_wire.specs.declared.packet.LengthSize.TheVariants.{Two};
 
 use crate::item::Item;
 use hk_base::{Form, Print, WireFault};
+use hk_limits::{FLIPS, allows_channels, allows_factor};
 use hk_wire::{Gathered, LastPacket, LengthSize};
 
 pub const HELLO_SIZE: u64 = 6;
@@ -23,8 +24,6 @@ const GAP: u8 = 3;
 
 const PRINT_SIZE: usize = 8;
 
-const MOST_WEAK_BITS: u32 = 10;
-
 /// The form, the last packet, and what the last segment has beyond its whole prints.
 #[derive(Debug, Drop)]
 pub struct Reader {
@@ -36,7 +35,7 @@ pub struct Reader {
 }
 
 impl Reader {
-    ghost use Rattle.hk_station_wire.specs.Taken.{StandsAfter, Brings, HasByte, packet_count};
+    ghost use Rattle.hk_station_wire.specs.Taken.{StandsAfter, TellsItem, HasByte, packet_count};
     ghost use Rattle.hk_station_wire.specs.Items.{is_fault, HasForm};
 
     pub fn new() -> Reader
@@ -60,7 +59,7 @@ impl Reader {
         ensures good { IfOk result (λ item. is_fault item ≡ false) }
         ensures form { IfOk result HasForm }
         ensures brings { (limit : ℕ) (text : List ℕ) → place ≡ length text → place < limit → StandsAfter self.old text
-            → Brings result self.new limit (text ++ byte ∷ []) }
+            → TellsItem result self.new limit (text ++ byte ∷ []) }
         ensures within { packet_count self.new ≤ place + 1 }
     {
         if place < HELLO_SIZE {
@@ -84,7 +83,7 @@ impl Reader {
         ensures form { IfOk result HasForm }
         ensures same_packet { packet_count self.new ≡ packet_count self.old }
         ensures brings { (limit : ℕ) (text : List ℕ) → place ≡ length text → place < limit → StandsAfter self.old text
-            → Brings result self.new limit (text ++ byte ∷ []) }
+            → TellsItem result self.new limit (text ++ byte ∷ []) }
     {
         if !hello_allows(place, self.form.channels, byte) {
             return Err(WireFault::BadHello(place));
@@ -107,7 +106,7 @@ impl Reader {
         ensures form { IfOk result HasForm }
         ensures same_packet { packet_count self.new ≡ packet_count self.old }
         ensures brings { (limit : ℕ) (text : List ℕ) → place ≡ length text → place < limit → HasByte self.old text byte
-            → Brings result self.new limit (text ++ byte ∷ []) }
+            → TellsItem result self.new limit (text ++ byte ∷ []) }
     {
         let count = self.packet.count();
         let kind = self.packet.kind();
@@ -152,7 +151,7 @@ fn hello_allows(place: u64, channels: u8, byte: u8) -> bool
         1 => byte == b'K',
         2 => byte == b'S',
         3 => byte == b'1',
-        4 => byte <= 2,
+        4 => byte == 0 || allows_channels(byte.into()),
         _ => factor_allowed(channels, byte),
     }
 }
@@ -163,7 +162,7 @@ fn factor_allowed(channels: u8, byte: u8) -> bool
 {
     match channels {
         0 => byte == 1,
-        _ => byte == 1 || byte == 2 || byte == 4 || byte == 8,
+        _ => allows_factor(byte.into()),
     }
 }
 
@@ -220,7 +219,7 @@ fn take_print(group: &mut Gathered, place: u64, byte: u8) -> Result<Item, WireFa
         mask: group.number(4),
     };
     *group = Gathered::new();
-    if print.mask.count_ones() > MOST_WEAK_BITS {
+    if u64::from(print.mask.count_ones()) > FLIPS.most {
         return Err(WireFault::BadMask(place));
     }
     Ok(Item::Print(print))

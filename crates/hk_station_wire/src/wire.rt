@@ -20,14 +20,14 @@ pub struct Wire {
 }
 
 impl Wire {
-    ghost use Rattle.hk_station_wire.specs.Taken.{HasTaken, limit_of, taken_of, fault_met};
+    ghost use Rattle.hk_station_wire.specs.Taken.{HasTaken, limit_of, count_taken, fault_met};
     ghost use Rattle.hk_station_wire.specs.Items.{item_at, is_fault, HasForm};
 
     /// A wire that has taken nothing, and takes at most `limit` bytes.
     pub fn new(limit: u64) -> Wire
         ensures nothing_taken { HasTaken result [] }
         ensures limit { limit_of result ≡ limit }
-        ensures none { taken_of result ≡ 0 }
+        ensures none { count_taken result ≡ 0 }
     {
         Wire {
             passage: Passage::new(limit),
@@ -41,8 +41,8 @@ impl Wire {
         ensures item { (text : List ℕ) → HasTaken self.old text → result ≡ item_at (limit_of self.old) (text ++ byte ∷ []) }
         ensures taken { (text : List ℕ) → HasTaken self.old text → HasTaken self.new (text ++ byte ∷ []) }
         ensures limit_stays { limit_of self.new ≡ limit_of self.old }
-        ensures counts { taken_of self.new ≡ taken_of self.old + (if is_fault result then 0 else 1) }
-        ensures room { taken_of self.new ≤ limit_of self.new }
+        ensures counts { count_taken self.new ≡ count_taken self.old + (if is_fault result then 0 else 1) }
+        ensures room { count_taken self.new ≤ limit_of self.new }
         ensures form { HasForm result }
         ensures same_fault { (fault : WireFault) → fault_met self.old ≡ Some fault → result ≡ Item.Fault fault }
         ensures fault_changes_nothing { (fault : WireFault) → fault_met self.old ≡ Some fault → self.new ≡ self.old }
@@ -75,7 +75,7 @@ impl Wire {
 
     /// How many bytes were taken before the fault, or in all.
     pub fn taken(&self) -> u64
-        ensures count { result ≡ taken_of self.now }
+        ensures count { result ≡ count_taken self.now }
         ensures seen { (text : List ℕ) → HasTaken self.now text → result ≡ length (station_seen (limit_of self.now) text) }
     {
         self.passage.taken()

@@ -8,7 +8,7 @@ use Rattle.hk_nodes.specs.Chains.{END, Has, AllBelow}
 use Rattle.hk_nodes.specs.Store.{Store, IsLive, IsHead, IsOrderly, chain_at, song_at, with_node}
 use Rattle.hk_nodes.proofs.Walks.{nodes_are}
 use Rattle.hk_nodes.proofs.Taking.{song_of}
-use Rattle.hk_table.specs.Walks.{word_of}
+use Rattle.hk_table.specs.Walks.{node_word}
 use Rattle.hk_table.specs.Songs.{AreWritten, IsSame, IsLonger}
 
 pub song_end : (m : Store) → IsOrderly m → song_at m END ≡ []
@@ -34,7 +34,7 @@ written_same old m slot pos (x ∷ xs) same written =
     let here = same x (inl refl) in
     (here.slot ∙ written.0, here.pos ∙ written.1, written_same old m slot (suc pos) xs (λ y has. same y (inr has)) written.2)
 
-pub words_same : (old m : Store) (xs : List ℕ) → ((x : ℕ) → Has x xs → IsSame old m x) → map (word_of m) xs ≡ map (word_of old) xs
+pub words_same : (old m : Store) (xs : List ℕ) → ((x : ℕ) → Has x xs → IsSame old m x) → map (node_word m) xs ≡ map (node_word old) xs
 words_same old m [] same = refl
 words_same old m (x ∷ xs) same = λ i. (same x (inl refl)).word i ∷ words_same old m xs (λ y has. same y (inr has)) i
 
@@ -45,7 +45,7 @@ none_longer bucket slot from m orderly =
       orderly = orderly;
       begins = inl refl;
       fresh = not_live_end m orderly;
-      words_are = ap (map (word_of m)) none;
+      words_are = ap (map (node_word m)) none;
       written = subst (AreWritten m slot from) (sym none) tt;
       bucketed = λ x has. absurd (subst (Has x) none has);
       live = λ x live. inl live;
@@ -74,8 +74,8 @@ module _ (bucket : ℕ → ℕ) (slot from : ℕ) (old m t : Store) (words : Lis
   bucket_here = ap (λ (s : Store). get_or s.bucket_of n END) take.taken
       ∙ get_or-set_same m.bucket_of n (bucket w) END (omega (arith, take.there, was.orderly.fits.same))
 
-  word_here : word_of t n ≡ w
-  word_here = ap (λ (s : Store). word_of s n) take.taken ∙ get_or-set_same m.words n w 0 (omega (arith, take.there, was.orderly.fits.words))
+  word_here : node_word t n ≡ w
+  word_here = ap (λ (s : Store). node_word s n) take.taken ∙ get_or-set_same m.words n w 0 (omega (arith, take.there, was.orderly.fits.words))
 
   slot_here : get_or t.slots n 0 ≡ slot
   slot_here = ap (λ (s : Store). get_or s.slots n 0) take.taken ∙ get_or-set_same m.slots n slot 0 (omega (arith, take.there, was.orderly.fits.slots))
@@ -102,7 +102,7 @@ module _ (bucket : ℕ → ℕ) (slot from : ℕ) (old m t : Store) (words : Lis
       let other = apart x live in
       record {
         bucket_of = bucket_other x other;
-        word = ap (λ (s : Store). word_of s x) take.taken ∙ get_or-set_other m.words n x w 0 other;
+        word = ap (λ (s : Store). node_word s x) take.taken ∙ get_or-set_other m.words n x w 0 other;
         slot = ap (λ (s : Store). get_or s.slots x 0) take.taken ∙ get_or-set_other m.slots n x slot 0 other;
         pos = ap (λ (s : Store). get_or s.positions x 0) take.taken ∙ get_or-set_other m.positions n x from 0 other;
         song = take.songs x live;
@@ -132,12 +132,12 @@ module _ (bucket : ℕ → ℕ) (slot from : ℕ) (old m t : Store) (words : Lis
     orderly = take.orderly;
     begins = inr take.head;
     fresh = λ live. not_live (was.stays n live).0;
-    words_are = ap (map (word_of t)) take.song
+    words_are = ap (map (node_word t)) take.song
         ∙ (λ i. word_here i ∷ (words_same m t (song_at m head) same_in_song ∙ was.words_are) i);
     written = subst (AreWritten t slot from) (sym take.song)
         (slot_here, pos_here, written_same m t slot (suc from) (song_at m head) same_in_song was.written);
     bucketed = λ x has. elim (split x has) [
-      | inl here ↦ ap (λ i. get_or t.bucket_of i END) here ∙ bucket_here ∙ ap bucket (sym word_here) ∙ ap (λ i. bucket (word_of t i)) (sym here)
+      | inl here ↦ ap (λ i. get_or t.bucket_of i END) here ∙ bucket_here ∙ ap bucket (sym word_here) ∙ ap (λ i. bucket (node_word t i)) (sym here)
       | inr later ↦
           let is = same_in_song x later in
           is.bucket_of ∙ was.bucketed x later ∙ ap bucket (sym is.word)

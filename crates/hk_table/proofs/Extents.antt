@@ -6,8 +6,8 @@ use Rattle.std.proofs.lemmas.Bool.{cases_eq, cases_lt}
 use Rattle.std.proofs.lemmas.List.{take_all, drop_at, take-append-le, drop-append-le, length-drop, length-take-le, get_or_past, get_or-set_same, get_or-set_other, map-set}
 use Rattle.std.proofs.lemmas.List.Elements.{All-weaker, All-set}
 use Rattle.std.proofs.lemmas.List.Sums.{sum_by-cons}
-use Rattle.hk_table.specs.Store.{Track, size_of, words_in}
-use Rattle.hk_table.specs.Extents.{track_of, tracks_of, IsWithin, IsSlotWithin, AreSlotsApart, AreApart, length_of, lengths_in}
+use Rattle.hk_table.specs.Store.{SongWithId, size_of, words_in}
+use Rattle.hk_table.specs.Extents.{extent_song, extent_songs, IsWithin, IsSlotWithin, AreSlotsApart, AreApart, length_of, lengths_in}
 use Rattle.hk_table.specs.declared.extent.Extent.{Extent}
 
 pub get_map : {A X : Type 0} (f : A → X) (slots : List (Option A)) (i : ℕ) → get_or (map (option_map f) slots) i None ≡ option_map f (get_or slots i None)
@@ -16,24 +16,24 @@ get_map f (s ∷ ss) zero = refl
 get_map f (s ∷ ss) (suc i) = get_map f ss i
 
 -- the words of an extent within the words of a store are as many as it says
-pub length-track : (words : List ℕ) (e : Extent) → IsWithin (length words) e → length (track_of words e).words ≡ e.length
-length-track words e within = length-take-le e.length (drop e.start words) (omega (arith, length-drop e.start words, within.ends))
+pub length-song : (words : List ℕ) (e : Extent) → IsWithin (length words) e → length (extent_song words e).words ≡ e.length
+length-song words e within = length-take-le e.length (drop e.start words) (omega (arith, length-drop e.start words, within.ends))
 
-size-track : (words : List ℕ) (slot : Option Extent) → IsSlotWithin (length words) slot → size_of (option_map (track_of words) slot) ≡ length_of slot
-size-track words None within = refl
-size-track words (Some e) within = length-track words e within
+size-song : (words : List ℕ) (slot : Option Extent) → IsSlotWithin (length words) slot → size_of (option_map (extent_song words) slot) ≡ length_of slot
+size-song words None within = refl
+size-song words (Some e) within = length-song words e within
 
 -- the words of all songs are those of their extents
-pub sizes : (words : List ℕ) (slots : List (Option Extent)) → All (IsSlotWithin (length words)) slots → words_in (tracks_of words slots) ≡ lengths_in slots
+pub sizes : (words : List ℕ) (slots : List (Option Extent)) → All (IsSlotWithin (length words)) slots → words_in (extent_songs words slots) ≡ lengths_in slots
 sizes words [] within = refl
 sizes words (s ∷ ss) within =
-    let first = size-track words s (within zero s (omega arith)) in
+    let first = size-song words s (within zero s (omega arith)) in
     let rest = sizes words ss (λ k d low. within (suc k) d (omega arith)) in
-    omega (arith, sum_by-cons size_of (option_map (track_of words) s) (tracks_of words ss), sum_by-cons length_of s ss, first, rest)
+    omega (arith, sum_by-cons size_of (option_map (extent_song words) s) (extent_songs words ss), sum_by-cons length_of s ss, first, rest)
 
 -- words behind the store change no song within it
 slot_stays : (words more : List ℕ) (slot : Option Extent) → IsSlotWithin (length words) slot
-    → option_map (track_of (words ++ more)) slot ≡ option_map (track_of words) slot
+    → option_map (extent_song (words ++ more)) slot ≡ option_map (extent_song words) slot
 slot_stays words more None within = refl
 slot_stays words more (Some e) within =
     let ends : e.start + e.length ≤ length words = within.ends in
@@ -42,28 +42,28 @@ slot_stays words more (Some e) within =
     ∙ take-append-le e.length (drop e.start words) more (omega (arith, length-drop e.start words, ends)))
 
 pub slots_stay : (words more : List ℕ) (slots : List (Option Extent)) → All (IsSlotWithin (length words)) slots
-    → tracks_of (words ++ more) slots ≡ tracks_of words slots
+    → extent_songs (words ++ more) slots ≡ extent_songs words slots
 slots_stay words more [] within = refl
 slots_stay words more (s ∷ ss) within =
-    ap (λ t. t ∷ tracks_of (words ++ more) ss) (slot_stays words more s (within zero s (omega arith)))
-    ∙ ap (λ ts. option_map (track_of words) s ∷ ts) (slots_stay words more ss (λ k d low. within (suc k) d (omega arith)))
+    ap (λ t. t ∷ extent_songs (words ++ more) ss) (slot_stays words more s (within zero s (omega arith)))
+    ∙ ap (λ ts. option_map (extent_song words) s ∷ ts) (slots_stay words more ss (λ k d low. within (suc k) d (omega arith)))
 
 -- the extent of a song behind the words of a store
-abbrev pub behind : List ℕ → Track → Extent
+abbrev pub behind : List ℕ → SongWithId → Extent
 behind words song = record { id = song.id; start = length words; length = length song.words }
 
-track-behind : (words : List ℕ) (song : Track) → track_of (words ++ song.words) (behind words song) ≡ song
-track-behind words song =
+song-behind : (words : List ℕ) (song : SongWithId) → extent_song (words ++ song.words) (behind words song) ≡ song
+song-behind words song =
     ap (λ ws. record { id = song.id; words = take (length song.words) ws }) (drop_at words song.words (length words) refl)
     ∙ ap (λ ws. record { id = song.id; words = ws }) (take_all (length song.words) song.words (omega arith))
 
 -- the songs with one more
-pub tracks-behind : (words : List ℕ) (slots : List (Option Extent)) (slot : ℕ) (song : Track) → All (IsSlotWithin (length words)) slots
-    → tracks_of (words ++ song.words) (set slots slot (Some (behind words song))) ≡ set (tracks_of words slots) slot (Some song)
-tracks-behind words slots slot song within =
-    map-set (option_map (track_of (words ++ song.words))) slots slot (Some (behind words song))
-    ∙ ap (λ ts. set ts slot (Some (track_of (words ++ song.words) (behind words song)))) (slots_stay words song.words slots within)
-    ∙ ap (λ t. set (tracks_of words slots) slot (Some t)) (track-behind words song)
+pub songs-behind : (words : List ℕ) (slots : List (Option Extent)) (slot : ℕ) (song : SongWithId) → All (IsSlotWithin (length words)) slots
+    → extent_songs (words ++ song.words) (set slots slot (Some (behind words song))) ≡ set (extent_songs words slots) slot (Some song)
+songs-behind words slots slot song within =
+    map-set (option_map (extent_song (words ++ song.words))) slots slot (Some (behind words song))
+    ∙ ap (λ ts. set ts slot (Some (extent_song (words ++ song.words) (behind words song)))) (slots_stay words song.words slots within)
+    ∙ ap (λ t. set (extent_songs words slots) slot (Some t)) (song-behind words song)
 
 within_more : (n m : ℕ) → n ≤ m → (slot : Option Extent) → IsSlotWithin n slot → IsSlotWithin m slot
 within_more n m more None within = within

@@ -9,7 +9,7 @@ use Rattle.hk_nodes.specs.Chains as chains
 use Rattle.hk_nodes.specs.Chains.{END, Has, Lacks, AllHave}
 use Rattle.hk_nodes.specs.Store.{Store, IsLive, IsHead, chain_at, song_at}
 use Rattle.hk_table.specs.Index.{Index, words_in, slot_at, StandsAt, AreOnce, ArePlaces}
-use Rattle.hk_table.specs.Walks.{word_of, place_of}
+use Rattle.hk_table.specs.Walks.{node_word, place_of}
 use Rattle.hk_table.specs.Songs.{AreWritten, HoldSongs, slots_in, slot_in, words_from}
 use Rattle.hk_table.specs.declared.place.Place.{Place}
 use Rattle.hk_table.proofs.Adding.{song_end, live_in_song}
@@ -38,7 +38,7 @@ module _ (bucket : ℕ → ℕ) (m : Store) (heads : List ℕ) (positions word :
   index = record { slots = slots_in m heads; positions = positions }
 
   abbrev hits : ℕ → Bool
-  hits x = word_of m x == word
+  hits x = node_word m x == word
 
   abbrev found : List ℕ → List Place
   found xs = map (place_of m) (filter hits xs)
@@ -66,14 +66,14 @@ module _ (bucket : ℕ → ℕ) (m : Store) (heads : List ℕ) (positions word :
       ∙ ap (λ (p : Place). get_or (song_at m (get_or heads p.slot END)) p.pos END) same
       ∙ (place_in y live_y).1
 
-  kept_hit : (x : ℕ) (xs : List ℕ) → word_of m x ≡ word → found (x ∷ xs) ≡ place_of m x ∷ found xs
-  kept_hit x xs is = ap (λ b. map (place_of m) (cond b (x ∷ filter hits xs) (filter hits xs))) (eq-eqb (word_of m x) word is)
+  kept_hit : (x : ℕ) (xs : List ℕ) → node_word m x ≡ word → found (x ∷ xs) ≡ place_of m x ∷ found xs
+  kept_hit x xs is = ap (λ b. map (place_of m) (cond b (x ∷ filter hits xs) (filter hits xs))) (eq-eqb (node_word m x) word is)
 
-  kept_miss : (x : ℕ) (xs : List ℕ) → word_of m x ≢ word → found (x ∷ xs) ≡ found xs
-  kept_miss x xs other = ap (λ b. map (place_of m) (cond b (x ∷ filter hits xs) (filter hits xs))) (ne_eqb (word_of m x) word other)
+  kept_miss : (x : ℕ) (xs : List ℕ) → node_word m x ≢ word → found (x ∷ xs) ≡ found xs
+  kept_miss x xs other = ap (λ b. map (place_of m) (cond b (x ∷ filter hits xs) (filter hits xs))) (ne_eqb (node_word m x) word other)
 
-  tells : (x : ℕ) → (word_of m x ≡ word) ⊎ (word_of m x ≢ word)
-  tells x = cases_eq (word_of m x) word
+  tells : (x : ℕ) → (node_word m x ≡ word) ⊎ (node_word m x ≢ word)
+  tells x = cases_eq (node_word m x) word
 
   others_away : (x : ℕ) (xs : List ℕ) → IsLive m x → ((y : ℕ) → Has y xs → IsLive m y) → Lacks x xs → All (λ p. place_of m x ≢ p) (found xs)
   others_away x [] live_x live lacks = λ k d low. absurd (omega (arith, low))
@@ -98,7 +98,7 @@ module _ (bucket : ℕ → ℕ) (m : Store) (heads : List ℕ) (positions word :
       ]
 
   -- a live node's word stands at its place
-  stands : (x : ℕ) → IsLive m x → word_of m x ≡ word → StandsAt index word (place_of m x)
+  stands : (x : ℕ) → IsLive m x → node_word m x ≡ word → StandsAt index word (place_of m x)
   stands x live is =
       let slot = get_or m.slots x 0 in
       let head = get_or heads slot END in
@@ -108,8 +108,8 @@ module _ (bucket : ℕ → ℕ) (m : Store) (heads : List ℕ) (positions word :
       let some : head ≢ END = λ none. subst (Has x) (ap (song_at m) none ∙ song_end m hold.orderly) own.song in
       let words : words_in (slot_at index slot) ≡ words_from m head = ap words_in (slot_at_head m heads slot own.slot ∙ slot_some m head some) in
       ap (λ ws. slice_get ws pos) words
-      ∙ slice_get-get_or (words_from m head) pos (word_of m END) (omega (arith, place.0, length-map (song_at m head) (word_of m)))
-      ∙ ap (λ w. Some w) (get_or-map (word_of m) (song_at m head) pos END (word_of m END) place.0 ∙ ap (word_of m) place.1 ∙ is)
+      ∙ slice_get-get_or (words_from m head) pos (node_word m END) (omega (arith, place.0, length-map (song_at m head) (node_word m)))
+      ∙ ap (λ w. Some w) (get_or-map (node_word m) (song_at m head) pos END (node_word m END) place.0 ∙ ap (node_word m) place.1 ∙ is)
 
   found_stand : (xs : List ℕ) → ((y : ℕ) → Has y xs → IsLive m y) → All (StandsAt index word) (found xs)
   found_stand [] live = λ k d low. absurd (omega (arith, low))
@@ -120,10 +120,10 @@ module _ (bucket : ℕ → ℕ) (m : Store) (heads : List ℕ) (positions word :
         | inr other ↦ subst (All (StandsAt index word)) (sym (kept_miss x xs other)) rest
       ]
 
-  is_found : (x : ℕ) (xs : List ℕ) → Has x xs → word_of m x ≡ word → Contains (found xs) (place_of m x)
+  is_found : (x : ℕ) (xs : List ℕ) → Has x xs → node_word m x ≡ word → Contains (found xs) (place_of m x)
   is_found x [] has is = absurd has
   is_found x (y ∷ ys) (inl same) is =
-      subst (λ ps. Contains ps (place_of m x)) (sym (kept_hit y ys (ap (word_of m) (sym same) ∙ is))) (zero, omega arith, ap (place_of m) (sym same))
+      subst (λ ps. Contains ps (place_of m x)) (sym (kept_hit y ys (ap (node_word m) (sym same) ∙ is))) (zero, omega arith, ap (place_of m) (sym same))
   is_found x (y ∷ ys) (inr later) is =
       let rest = is_found x ys later is in
       elim (tells y) [
@@ -144,7 +144,7 @@ module _ (bucket : ℕ → ℕ) (m : Store) (heads : List ℕ) (positions word :
   live_chain x has = omega (arith, low, has_value m.bucket_of (bucket word) x chain (hold.orderly.theirs (bucket word)) has)
 
   abbrev all_found : List Place
-  all_found = map (place_of m) (filter (λ x. word_of m x == word) chain)
+  all_found = map (place_of m) (filter (λ x. node_word m x == word) chain)
 
   -- a place of a slot's song
   in_song : (slot pos : ℕ) → slot < length heads → IsHead m (get_or heads slot END) → AreWritten m slot 0 (song_at m (get_or heads slot END))
@@ -152,12 +152,12 @@ module _ (bucket : ℕ → ℕ) (m : Store) (heads : List ℕ) (positions word :
   in_song slot pos inside is written there =
       let head = get_or heads slot END in
       let song = song_at m head in
-      let short : pos < length song = omega (arith, slice_get_within (words_from m head) pos word there, length-map song (word_of m)) in
+      let short : pos < length song = omega (arith, slice_get_within (words_from m head) pos word there, length-map song (node_word m)) in
       let x = get_or song pos END in
       let at = at_written m slot 0 pos song written short in
       let live : IsLive m x = live_in_song m head x hold.orderly (inr is) at.0 in
-      let has_word : word_of m x ≡ word =
-      sym (get_or-map (word_of m) song pos END (word_of m END) short) ∙ get_or_from_slice_get (words_from m head) pos word (word_of m END) there in
+      let has_word : node_word m x ≡ word =
+      sym (get_or-map (node_word m) song pos END (node_word m END) short) ∙ get_or_from_slice_get (words_from m head) pos word (node_word m END) there in
       let listed : Has x chain =
       subst (λ b. Has x (chain_at m b)) ((hold.owned x live).bucketed ∙ ap bucket has_word) (hold.orderly.there x live) in
       let place : place_of m x ≡ record { slot = slot; pos = pos } = let here : get_or m.positions x 0 ≡ pos = omega (arith, at.2) in λ i. record { slot = at.1 i; pos = here i } in

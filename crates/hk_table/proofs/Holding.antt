@@ -11,7 +11,7 @@ use Rattle.hk_nodes.proofs.Taking.{song_of}
 use Rattle.hk_nodes.proofs.Giving.{chain_less, song_split}
 use Rattle.hk_nodes.proofs.Songs.{live_was, freed_other, length_without, count_in}
 use Rattle.hk_table.specs.Index.{words_in, all_words}
-use Rattle.hk_table.specs.Walks.{word_of}
+use Rattle.hk_table.specs.Walks.{node_word}
 use Rattle.hk_table.specs.Songs.{AreWritten, IsSlot, IsOwned, HoldSongs, IsSame, IsLonger, slot_in, slots_in, words_from}
 use Rattle.hk_table.proofs.Counting.{count-set, length-set_words}
 use Rattle.hk_table.proofs.Adding.{song_end, live_in_song, not_live_end, written_same, words_same}
@@ -38,7 +38,7 @@ slot_same old m slot head orderly same (inl none) = slot_none m head none ∙ sy
 slot_same old m slot head orderly same (inr is) =
     let some = head_not_end old head orderly is.0 in
     let here : words_from m head ≡ words_from old head =
-    ap (map (word_of m)) (same head is.0.live).song
+    ap (map (node_word m)) (same head is.0.live).song
     ∙ words_same old m (song_at old head) (λ x has. same x (live_in_song old head x orderly (inr is.0) has)) in
     slot_some m head some ∙ ap (λ ws. Some ws) here ∙ sym (slot_some old head some)
 
@@ -58,7 +58,7 @@ module _ (bucket : ℕ → ℕ) (slot : ℕ) (old m : Store) (heads words : List
   begins : IsHead m head
   begins = elim longer.begins [
     | inl none ↦
-        let no : words ≡ [] = sym longer.words_are ∙ ap (map (word_of m)) (ap (song_at m) none ∙ song_end m longer.orderly) in
+        let no : words ≡ [] = sym longer.words_are ∙ ap (map (node_word m)) (ap (song_at m) none ∙ song_end m longer.orderly) in
         absurd (omega (arith, some, ap length no))
     | inr is ↦ is
   ]
@@ -164,18 +164,18 @@ module _ (bucket : ℕ → ℕ) (slot : ℕ) (old m : Store) (heads words : List
   }
 
 -- the words of a song's nodes that are in a bucket
-counted_song : (bucket : ℕ → ℕ) (m : Store) (value : ℕ) (xs : List ℕ) → ((x : ℕ) → Has x xs → get_or m.bucket_of x END ≡ bucket (word_of m x))
-    → count_in m.bucket_of value xs ≡ count_by (λ w. bucket w == value) (map (word_of m) xs)
+counted_song : (bucket : ℕ → ℕ) (m : Store) (value : ℕ) (xs : List ℕ) → ((x : ℕ) → Has x xs → get_or m.bucket_of x END ≡ bucket (node_word m x))
+    → count_in m.bucket_of value xs ≡ count_by (λ w. bucket w == value) (map (node_word m) xs)
 counted_song bucket m value [] theirs = refl
 counted_song bucket m value (x ∷ xs) theirs =
-    let here : ◌≡◌ {A = ℕ} (cond (get_or m.bucket_of x END == value) 1 0) (cond (bucket (word_of m x) == value) 1 0) =
+    let here : ◌≡◌ {A = ℕ} (cond (get_or m.bucket_of x END == value) 1 0) (cond (bucket (node_word m x) == value) 1 0) =
     ap (λ b. cond (b == value) 1 0) (theirs x (inl refl)) in
     omega (
       arith,
       here,
       counted_song bucket m value xs (λ y has. theirs y (inr has)),
       sum_by-cons (λ y. cond (get_or m.bucket_of y END == value) 1 0) x xs,
-      sum_by-cons (λ w. cond (bucket w == value) 1 0) (word_of m x) (map (word_of m) xs),
+      sum_by-cons (λ w. cond (bucket w == value) 1 0) (node_word m x) (map (node_word m) xs),
     )
 
 module _ (bucket : ℕ → ℕ) (slot : ℕ) (m t : Store) (heads : List ℕ) (hold : HoldSongs bucket m heads) (low : slot < length heads)
@@ -267,6 +267,6 @@ module _ (bucket : ℕ → ℕ) (slot : ℕ) (m t : Store) (heads : List ℕ) (h
       ap (λ ss. length (all_words ss)) slots_without,
       length-set_words (slots_in m heads) slot None inside_slots,
       ap (λ s. length (words_in s)) slot_was,
-      length-map song (word_of m),
+      length-map song (node_word m),
     );
   }

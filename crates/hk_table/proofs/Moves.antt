@@ -7,8 +7,8 @@ use Rattle.std.proofs.lemmas.Bool.Decides.{leb_tells}
 use Rattle.std.proofs.lemmas.List.{drop_at, drop-drop, drop-take, take-take, take-append-le, drop-append-le, length-drop, length-take-le, get_or-set_same, get_or-set_other, map-set}
 use Rattle.std.proofs.lemmas.List.Elements.{All-from_get_or, All-set}
 use Rattle.std.proofs.lemmas.List.Sums.{sum_by-cons}
-use Rattle.hk_table.specs.Store.{Track}
-use Rattle.hk_table.specs.Extents.{track_of, tracks_of, IsWithin, IsSlotWithin, IsApart, AreSlotsApart, IsSlotApart, AreApart, moved_down, length_of, lengths_in}
+use Rattle.hk_table.specs.Store.{SongWithId}
+use Rattle.hk_table.specs.Extents.{extent_song, extent_songs, IsWithin, IsSlotWithin, IsApart, AreSlotsApart, IsSlotApart, AreApart, moved_down, length_of, lengths_in}
 use Rattle.hk_table.specs.declared.extent.Extent.{Extent}
 use Rattle.hk_table.proofs.Extents.{at_any, none_apart, apart-set, get_map}
 
@@ -29,9 +29,9 @@ moves gone e = elim (leb_tells (suc gone.start) e.start) [
 ]
 
 -- the words of a song that stands behind
-track_above : (words : List ℕ) (gone e : Extent) → IsWithin (length words) gone → gone.start + gone.length ≤ e.start
+song_above : (words : List ℕ) (gone e : Extent) → IsWithin (length words) gone → gone.start + gone.length ≤ e.start
     → drop (e.start - gone.length) (closed words gone) ≡ drop e.start words
-track_above words gone e within above =
+song_above words gone e within above =
     let front : length (take gone.start words) ≡ gone.start = length-take-le gone.start words (omega (arith, within.ends)) in
     let k : ℕ = e.start - (gone.start + gone.length) in
     let at : e.start - gone.length ≡ gone.start + k = omega arith in
@@ -43,9 +43,9 @@ track_above words gone e within above =
     ∙ ap (λ n. drop n words) upto
 
 -- the words of a song that stands in front
-track_below : (words : List ℕ) (gone e : Extent) → IsWithin (length words) gone → e.start + e.length ≤ gone.start
+song_below : (words : List ℕ) (gone e : Extent) → IsWithin (length words) gone → e.start + e.length ≤ gone.start
     → take e.length (drop e.start (closed words gone)) ≡ take e.length (drop e.start words)
-track_below words gone e within below =
+song_below words gone e within below =
     let front : length (take gone.start words) ≡ gone.start = length-take-le gone.start words (omega (arith, within.ends)) in
     let m : ℕ = gone.start - e.start in
     let upto : gone.start ≡ e.start + m = omega arith in
@@ -55,37 +55,37 @@ track_below words gone e within below =
     ∙ ap (take e.length) (drop-take e.start m words)
     ∙ take-take e.length m (drop e.start words) (omega arith)
 
-track_moves : (words : List ℕ) (gone e : Extent) → IsWithin (length words) gone → IsApart gone e
-    → track_of (closed words gone) (moved_down gone e) ≡ track_of words e
-track_moves words gone e within apart =
-    let song : List ℕ → Track = λ ws. record { id = e.id; words = ws } in
+song_moves : (words : List ℕ) (gone e : Extent) → IsWithin (length words) gone → IsApart gone e
+    → extent_song (closed words gone) (moved_down gone e) ≡ extent_song words e
+song_moves words gone e within apart =
+    let song : List ℕ → SongWithId = λ ws. record { id = e.id; words = ws } in
     elim (moves gone e) [
       | inl up ↦ ap (λ n. song (take e.length (drop n (closed words gone)))) up.1
-          ∙ ap (λ ws. song (take e.length ws)) (track_above words gone e within (apart.above (omega (arith, up.0))))
+          ∙ ap (λ ws. song (take e.length ws)) (song_above words gone e within (apart.above (omega (arith, up.0))))
       | inr down ↦ ap (λ n. song (take e.length (drop n (closed words gone)))) down.1
-          ∙ ap song (track_below words gone e within (apart.below down.0))
+          ∙ ap song (song_below words gone e within (apart.below down.0))
     ]
 
 slot_moves : (words : List ℕ) (gone : Extent) (slot : Option Extent) → IsWithin (length words) gone → IsSlotApart gone slot
-    → option_map (track_of (closed words gone)) (option_map (moved_down gone) slot) ≡ option_map (track_of words) slot
+    → option_map (extent_song (closed words gone)) (option_map (moved_down gone) slot) ≡ option_map (extent_song words) slot
 slot_moves words gone None within apart = refl
-slot_moves words gone (Some e) within apart = ap (λ t. Some t) (track_moves words gone e within apart)
+slot_moves words gone (Some e) within apart = ap (λ t. Some t) (song_moves words gone e within apart)
 
 slots_move : (words : List ℕ) (gone : Extent) (slots : List (Option Extent)) → IsWithin (length words) gone → All (IsSlotApart gone) slots
-    → tracks_of (closed words gone) (map (option_map (moved_down gone)) slots) ≡ tracks_of words slots
+    → extent_songs (closed words gone) (map (option_map (moved_down gone)) slots) ≡ extent_songs words slots
 slots_move words gone [] within apart = refl
 slots_move words gone (s ∷ ss) within apart =
-    ap (λ t. t ∷ tracks_of (closed words gone) (map (option_map (moved_down gone)) ss)) (slot_moves words gone s within (apart zero s (omega arith)))
-    ∙ ap (λ ts. option_map (track_of words) s ∷ ts) (slots_move words gone ss within (λ k d low. apart (suc k) d (omega arith)))
+    ap (λ t. t ∷ extent_songs (closed words gone) (map (option_map (moved_down gone)) ss)) (slot_moves words gone s within (apart zero s (omega arith)))
+    ∙ ap (λ ts. option_map (extent_song words) s ∷ ts) (slots_move words gone ss within (λ k d low. apart (suc k) d (omega arith)))
 
 -- the slots without the one that is gone
 abbrev pub left : List (Option Extent) → ℕ → Extent → List (Option Extent)
 left slots slot gone = map (option_map (moved_down gone)) (set slots slot None)
 
-pub tracks-left : (words : List ℕ) (slots : List (Option Extent)) (slot : ℕ) (gone : Extent) → IsWithin (length words) gone
-    → All (IsSlotApart gone) (set slots slot None) → tracks_of (closed words gone) (left slots slot gone) ≡ set (tracks_of words slots) slot None
-tracks-left words slots slot gone within apart =
-    slots_move words gone (set slots slot None) within apart ∙ map-set (option_map (track_of words)) slots slot None
+pub songs-left : (words : List ℕ) (slots : List (Option Extent)) (slot : ℕ) (gone : Extent) → IsWithin (length words) gone
+    → All (IsSlotApart gone) (set slots slot None) → extent_songs (closed words gone) (left slots slot gone) ≡ set (extent_songs words slots) slot None
+songs-left words slots slot gone within apart =
+    slots_move words gone (set slots slot None) within apart ∙ map-set (option_map (extent_song words)) slots slot None
 
 -- all other slots are apart from the one that is gone
 pub others_apart : (slots : List (Option Extent)) (slot : ℕ) (gone : Extent) → slot < length slots → AreApart slots → get_or slots slot None ≡ Some gone

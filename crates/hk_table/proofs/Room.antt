@@ -4,8 +4,8 @@ use Rattle.std.proofs.lemmas.Bool.{cases_lt}
 use Rattle.std.proofs.lemmas.List.{get_or_past, length-map, take_all}
 use Rattle.std.proofs.lemmas.List.Sums.{sum_by-set}
 use Rattle.std.specs.Option.{option_map}
-use Rattle.hk_table.specs.Store.{Store, Track, song_at, size_at, size_of, spare, words_in, with_song_at, without_song_at}
-use Rattle.hk_table.specs.Extents.{track_of, tracks_of}
+use Rattle.hk_table.specs.Store.{Store, SongWithId, song_at, size_at, size_of, spare, words_in, with_song_at, without_song_at}
+use Rattle.hk_table.specs.Extents.{extent_song, extent_songs}
 use Rattle.hk_table.specs.Inside.{as_store, IsKept}
 use Rattle.hk_table.specs.declared.extent.Extent.{Extent}
 use Rattle.hk_table.specs.declared.song_store.SongStore.TheInside.{Inside}
@@ -27,7 +27,7 @@ room_left s store n view kept few =
 pub slot_there : (s : Inside) (store : Store) (slot : ℕ) → as_store s ≡ store → slot < length store.slots → slot < length s.slots.items
 slot_there s store slot view low =
     let here : slot < length (as_store s).slots = subst (λ (p : Store). slot < length p.slots) (sym view) low in
-    omega (arith, here, length-map s.slots.items (option_map (track_of s.words.items)))
+    omega (arith, here, length-map s.slots.items (option_map (extent_song s.words.items)))
 
 none_from_map : {X : Type 0} (f : Extent → X) (slot : Option Extent) → option_map f slot ≡ None → slot ≡ None
 none_from_map f None is = refl
@@ -35,17 +35,17 @@ none_from_map f (Some e) is = absurd (cc)
 
 pub there_in_view : (s : Inside) (store : Store) (slot : ℕ) → as_store s ≡ store → slot < length s.slots.items → slot < length store.slots
 there_in_view s store slot view low =
-    subst (λ (p : Store). slot < length p.slots) view (omega (arith, low, length-map s.slots.items (option_map (track_of s.words.items))))
+    subst (λ (p : Store). slot < length p.slots) view (omega (arith, low, length-map s.slots.items (option_map (extent_song s.words.items))))
 
-tracks-none : (words : List ℕ) (n : ℕ) → tracks_of words (replicate n None) ≡ replicate n None
-tracks-none words zero = refl
-tracks-none words (suc n) = ap (λ ts. None ∷ ts) (tracks-none words n)
+songs-none : (words : List ℕ) (n : ℕ) → extent_songs words (replicate n None) ≡ replicate n None
+songs-none words zero = refl
+songs-none words (suc n) = ap (λ ts. None ∷ ts) (songs-none words n)
 
 -- an empty slot
 pub slot_empty : (s : Inside) (store : Store) (slot : ℕ) → as_store s ≡ store → song_at store slot ≡ None → get_or s.slots.items slot None ≡ None
 slot_empty s store slot view empty =
-    none_from_map (track_of s.words.items) (get_or s.slots.items slot None)
-    (sym (get_map (track_of s.words.items) s.slots.items slot) ∙ subst (λ (p : Store). song_at p slot ≡ None) (sym view) empty)
+    none_from_map (extent_song s.words.items) (get_or s.slots.items slot None)
+    (sym (get_map (extent_song s.words.items) s.slots.items slot) ∙ subst (λ (p : Store). song_at p slot ≡ None) (sym view) empty)
 
 pub there_from_some : (slots : List (Option Extent)) (slot : ℕ) (e : Extent) → get_or slots slot None ≡ Some e → slot < length slots
 there_from_some slots slot e is = elim (cases_lt slot (length slots)) [
@@ -62,11 +62,11 @@ filled value items n k none start =
 
 -- slots of which none was set
 pub slots_new : (words : List ℕ) (slots : List (Option Extent)) (n k : ℕ) → slots ≡ [] → k ≡ 0
-    → tracks_of words (take n slots ++ replicate (n - k) None) ≡ replicate n None
-slots_new words slots n k none start = ap (tracks_of words) (filled None slots n k none start) ∙ tracks-none words n
+    → extent_songs words (take n slots ++ replicate (n - k) None) ≡ replicate n None
+slots_new words slots n k none start = ap (extent_songs words) (filled None slots n k none start) ∙ songs-none words n
 
 -- one song more takes its words of the room
-pub spare-put : (store : Store) (slot : ℕ) (song : Track) → slot < length store.slots → song_at store slot ≡ None → length song.words ≤ spare store
+pub spare-put : (store : Store) (slot : ℕ) (song : SongWithId) → slot < length store.slots → song_at store slot ≡ None → length song.words ≤ spare store
     → spare (with_song_at store slot song) + length song.words ≡ spare store
 spare-put store slot song low empty room =
     omega (arith, sum_by-set size_of store.slots slot (Some song) None low, ap size_of empty, room)

@@ -6,7 +6,7 @@ use Rattle.hk_nodes.specs.Chains.{END, AreOnce, AllHave, first_of}
 use Rattle.hk_nodes.specs.Store.{Store, Fits, IsLive, IsOrderly, chain_at}
 use Rattle.hk_nodes.proofs.Giving.{lacks_mid}
 use Rattle.hk_nodes.proofs.Leaving.{cut_at}
-use Rattle.hk_table.specs.Walks.{word_of, place_of, course, from_on, rest_at, IsWalk}
+use Rattle.hk_table.specs.Walks.{node_word, place_of, course, from_on, rest_at, IsWalk}
 use Rattle.hk_table.specs.declared.place.Place.{Place}
 use Rattle.hk_table.specs.declared.walk.Walk.TheInside.{Inside}
 
@@ -63,8 +63,8 @@ standing m x orderly live =
 pub record Visited (m : Store) (word x next : ℕ) : Type 0 where
   pub at : (next ≡ END) ⊎ IsLive m next
   pub nodes : length (rest_at m x) ≡ length (rest_at m next) + 1
-  pub hit : word_of m x ≡ word → (course m word (rest_at m x)).places ≡ place_of m x ∷ (course m word (rest_at m next)).places
-  pub miss : word_of m x ≢ word → (course m word (rest_at m x)).places ≡ (course m word (rest_at m next)).places
+  pub hit : node_word m x ≡ word → (course m word (rest_at m x)).places ≡ place_of m x ∷ (course m word (rest_at m next)).places
+  pub miss : node_word m x ≢ word → (course m word (rest_at m x)).places ≡ (course m word (rest_at m next)).places
 
 visited : (m : Store) (word x next : ℕ) → IsOrderly m → IsLive m x
     → ((bucket : ℕ) (front back : List ℕ) → chain_at m bucket ≡ front ++ x ∷ back → next ≡ first_of back) → Visited m word x next
@@ -79,9 +79,9 @@ visited m word x next orderly live link =
     record {
       at = subst (λ i. (i ≡ END) ⊎ IsLive m i) (sym here) is.live;
       nodes = omega (arith, ap length is.rest, ap length rest);
-      hit = λ same. ap places is.rest ∙ ap (λ b. map (place_of m) (cond b (x ∷ filter (λ y. word_of m y == word) back) (filter (λ y. word_of m y == word) back))) (eq-eqb (word_of m x) word same)
+      hit = λ same. ap places is.rest ∙ ap (λ b. map (place_of m) (cond b (x ∷ filter (λ y. node_word m y == word) back) (filter (λ y. node_word m y == word) back))) (eq-eqb (node_word m x) word same)
           ∙ ap (λ xs. place_of m x ∷ places xs) (sym rest);
-      miss = λ other. ap places is.rest ∙ ap (λ b. map (place_of m) (cond b (x ∷ filter (λ y. word_of m y == word) back) (filter (λ y. word_of m y == word) back))) (ne_eqb (word_of m x) word other)
+      miss = λ other. ap places is.rest ∙ ap (λ b. map (place_of m) (cond b (x ∷ filter (λ y. node_word m y == word) back) (filter (λ y. node_word m y == word) back))) (ne_eqb (node_word m x) word other)
           ∙ ap places (sym rest);
     }
 

@@ -1,16 +1,16 @@
 -- How songs lie in the words of a store.
 use Rattle.std.specs.Prelude.{◌≢◌, ℕ, ◌+◌, ◌-◌, ◌≤◌, nat_lt, if◌then◌else◌, List, map, take, drop, sum_by, slice_index_or, Option, Some, None, option_map, ⊤}
 use Rattle.std.specs.Option.{option_map_or, IfSome}
-use Rattle.hk_table.specs.Store.{Track, BLOCK_SIZE}
+use Rattle.hk_table.specs.Store.{SongWithId, BLOCK_SIZE}
 use Rattle.hk_table.specs.declared.extent.Extent.{Extent}
 
 -- the song of an extent
-abbrev pub track_of : List ℕ → Extent → Track
-track_of words extent = record { id = extent.id; words = take extent.length (drop extent.start words) }
+abbrev pub extent_song : List ℕ → Extent → SongWithId
+extent_song words extent = record { id = extent.id; words = take extent.length (drop extent.start words) }
 
 -- the songs of slots
-abbrev pub tracks_of : List ℕ → List (Option Extent) → List (Option Track)
-tracks_of words slots = map (option_map (track_of words)) slots
+abbrev pub extent_songs : List ℕ → List (Option Extent) → List (Option SongWithId)
+extent_songs words slots = map (option_map (extent_song words)) slots
 
 -- the extent lies within so many words, and has enough of them for a block
 pub record IsWithin (size : ℕ) (extent : Extent) : Type 0 where

@@ -5,12 +5,12 @@ use Rattle.hk_nodes.specs.Chains.{END, Has}
 use Rattle.hk_nodes.specs.Store as nodes
 use Rattle.hk_nodes.specs.Store.{IsLive, IsHead, IsOrderly, chain_at, song_at}
 use Rattle.hk_table.specs.Index.{Index, all_words}
-use Rattle.hk_table.specs.Walks.{word_of}
+use Rattle.hk_table.specs.Walks.{node_word}
 use Rattle.hk_table.specs.declared.table.Table.TheInside.{Inside}
 
 -- the words of a song's nodes
 abbrev pub words_from : nodes.Store → ℕ → List ℕ
-words_from m head = map (word_of m) (song_at m head)
+words_from m head = map (node_word m) (song_at m head)
 
 -- what a slot has whose song begins at this node
 abbrev pub slot_in : nodes.Store → ℕ → Option (List ℕ)
@@ -38,7 +38,7 @@ IsSlot m slot head = (head ≡ END) ⊎ (IsHead m head × AreWritten m slot 0 (s
 
 -- a node stands in the bucket of its word and in the song of its slot
 pub record IsOwned (bucket : ℕ → ℕ) (m : nodes.Store) (heads : List ℕ) (x : ℕ) : Type 0 where
-  pub bucketed : slice_index_or m.bucket_of x END ≡ bucket (word_of m x)
+  pub bucketed : slice_index_or m.bucket_of x END ≡ bucket (node_word m x)
   pub slot : slice_index_or m.slots x 0 < length heads
   pub song : Has x (song_at m (slice_index_or heads (slice_index_or m.slots x 0) END))
 
@@ -59,7 +59,7 @@ pub record IsKept (t : Inside) : Type 0 where
 -- a node that was live is as it was
 pub record IsSame (old m : nodes.Store) (x : ℕ) : Type 0 where
   pub bucket_of : slice_index_or m.bucket_of x END ≡ slice_index_or old.bucket_of x END
-  pub word : word_of m x ≡ word_of old x
+  pub word : node_word m x ≡ node_word old x
   pub slot : slice_index_or m.slots x 0 ≡ slice_index_or old.slots x 0
   pub pos : slice_index_or m.positions x 0 ≡ slice_index_or old.positions x 0
   pub song : song_at m x ≡ song_at old x
@@ -71,7 +71,7 @@ pub record IsLonger (bucket : ℕ → ℕ) (slot from : ℕ) (old m : nodes.Stor
   pub fresh : IsLive old head → ⊥
   pub words_are : words_from m head ≡ words
   pub written : AreWritten m slot from (song_at m head)
-  pub bucketed : (x : ℕ) → Has x (song_at m head) → slice_index_or m.bucket_of x END ≡ bucket (word_of m x)
+  pub bucketed : (x : ℕ) → Has x (song_at m head) → slice_index_or m.bucket_of x END ≡ bucket (node_word m x)
   pub live : (x : ℕ) → IsLive m x → IsLive old x ⊎ Has x (song_at m head)
   pub stays : (x : ℕ) → IsLive old x → IsLive m x × IsSame old m x
   pub heads : (x : ℕ) → IsHead old x → IsHead m x

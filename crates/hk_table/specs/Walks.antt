@@ -7,15 +7,15 @@ use Rattle.hk_table.specs.Index.{Course}
 use Rattle.hk_table.specs.declared.place.Place.{Place}
 use Rattle.hk_table.specs.declared.walk.Walk.TheInside.{Inside}
 
-abbrev pub word_of : nodes.Store → ℕ → ℕ
-word_of m node = slice_index_or m.words node 0
+abbrev pub node_word : nodes.Store → ℕ → ℕ
+node_word m node = slice_index_or m.words node 0
 
 abbrev pub place_of : nodes.Store → ℕ → Place
 place_of m node = record { slot = slice_index_or m.slots node 0; pos = slice_index_or m.positions node 0 }
 
 -- the walk for a word through these nodes
 abbrev pub course : nodes.Store → ℕ → List ℕ → Course
-course m word chain = record { places = map (place_of m) (filter (λ x. word_of m x == word) chain); nodes = length chain }
+course m word chain = record { places = map (place_of m) (filter (λ x. node_word m x == word) chain); nodes = length chain }
 
 -- the list from a node on
 abbrev pub from_on : ℕ → List ℕ → List ℕ

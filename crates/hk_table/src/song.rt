@@ -16,9 +16,9 @@ pub struct Song<'a> {
 
 impl<'a> Model for Song<'a> {
     ghost use Rattle.std.specs.Prelude.{◌≤◌, ◌<◌, ◌^◌, length};
-    ghost use Rattle.hk_table.specs.Store.{Track, BLOCK_SIZE};
+    ghost use Rattle.hk_table.specs.Store.{SongWithId, BLOCK_SIZE};
 
-    ghost Value = { Track };
+    ghost Value = { SongWithId };
 
     ghost view = { λ s. record { id = s.id; words = s.words.now } };
 

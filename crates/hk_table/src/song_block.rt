@@ -12,9 +12,9 @@ pub struct SongBlock {
 
 impl Model for SongBlock {
     ghost use Rattle.std.specs.Prelude.{◌≤◌, ◌^◌, vec_len};
-    ghost use Rattle.hk_table.specs.Store.{Track, BLOCK_SIZE};
+    ghost use Rattle.hk_table.specs.Store.{SongWithId, BLOCK_SIZE};
 
-    ghost Value = { Track };
+    ghost Value = { SongWithId };
 
     ghost view = { λ b. record { id = b.id; words = b.words.items } };
 

@@ -5,7 +5,7 @@ use Rattle.hk_spec_sound.specs.Circle.{quarter, direction}
 use Rattle.hk_spec_sound.specs.Spectrum.{Complex, plus, turned_back, evens, odds, transform}
 use Rattle.hk_spec_sound.proofs.Spectra.{paired}
 use Rattle.hk_spec_sound.proofs.Halves.{length-evens, length-odds}
-use Rattle.hk_transform.specs.Joined.{sums, differences}
+use Rattle.hk_transform.specs.Joined.{sums, half_differences}
 use Rattle.hk_transform.specs.Parts.{halves_of}
 use Rattle.hk_transform.proofs.Joining.{at, transform-joined, joined_at, length-sums}
 use Rattle.hk_transform.proofs.Blocks.{length-transform}
@@ -25,7 +25,7 @@ last_bin items z k d len is below =
     let second : get_or z (1024 + k) d ≡ get_or o k d =
     ap (λ y. get_or y (1024 + k) d) is ∙ ap (λ n. get_or (e ++ o) (n + k) d) (sym e_len) ∙ get_or-append-add e o k d in
     ap (λ y. get_or y k d) (transform-joined 10 items)
-    ∙ get_or_append_left (sums (quarter 9) 1 e o) (differences (quarter 9) 1 e o) d k (omega (arith, length-sums (quarter 9) 1 e o, e_len, o_len, below))
+    ∙ get_or_append_left (sums (quarter 9) 1 e o) (half_differences (quarter 9) 1 e o) d k (omega (arith, length-sums (quarter 9) 1 e o, e_len, o_len, below))
     ∙ joined_at plus (quarter 9) 1 e o k d (omega (arith, e_len, below)) (omega (arith, o_len, below))
     ∙ ap (λ j. plus (get_or e k d, turned_back (direction (quarter 9) j) (get_or o k d))) same
     ∙ ap (λ x. plus (x, turned_back (direction (quarter 9) k) (get_or o k d))) (sym first)

@@ -6,7 +6,7 @@ ghost use Rattle.hk_transform.specs.Parts.{halves_of};
 
 use crate::narrow::item_at;
 use crate::narrow_stages::ten_stages;
-use crate::order::{fill_order, load_reversed};
+use crate::order::{BitReversal, load_reversed};
 use hk_circle::Circle;
 
 // The bins of all bands, up to and without `HIGHEST`.
@@ -16,7 +16,12 @@ const HIGHEST: usize = 743;
 
 /// Transforms a frame of real samples, as far as the bands read it: `re[k]` is sample k before, at most 32768 in magnitude,
 /// and `re[k]` and `im[k]` are the parts of bin k after, for bins 111 to 742. It takes no memory.
-pub fn band_bins(circle: &Circle, re: &mut [i64; 2048], im: &mut [i64; 2048])
+pub fn band_bins(
+    circle: &Circle,
+    reversal: &BitReversal,
+    re: &mut [i64; 2048],
+    im: &mut [i64; 2048],
+)
     requires re_within { AreBelow 32769 re.old }
     requires im_below { AreBelow (2 ^ 34) im.old }
     ensures bins { (k : ℕ) (d : Complex) → 111 ≤ k → k < 743
@@ -25,11 +30,9 @@ pub fn band_bins(circle: &Circle, re: &mut [i64; 2048], im: &mut [i64; 2048])
     ensures re_below { AreBelow (2 ^ 34) re.new }
     ensures im_below { AreBelow (2 ^ 34) im.new }
 {
-    let mut order = [0; 2048];
-    fill_order(&mut order);
     let mut halves_re = [0; 2048];
     let mut halves_im = [0; 2048];
-    load_reversed(&order, re, &mut halves_re);
+    load_reversed(&reversal.numbers, re, &mut halves_re);
     ten_stages(circle, &mut halves_re, &mut halves_im);
     last_stage(circle, &halves_re, &halves_im, re, im);
 }

@@ -3,7 +3,7 @@ ghost use Rattle.std.specs.Prelude.{◌≡◌, ◌<◌, ◌≤◌, ◌+◌, ◌*
 ghost use Rattle.hk_spec_sound.specs.Circle.{quarter, cos_of, sin_of};
 ghost use Rattle.hk_spec_sound.specs.Spectrum.{complexes, AreBelow};
 ghost use Rattle.hk_circle.specs.Tables.{TurnsOf};
-ghost use Rattle.hk_transform.specs.Joined.{sums, differences, HalvesBelow};
+ghost use Rattle.hk_transform.specs.Joined.{sums, half_differences, HalvesBelow};
 
 use crate::item::Item;
 
@@ -20,7 +20,7 @@ pub fn join_block(cos: &[i32], sin: &[i32], half: usize, re: &mut [i32], im: &mu
     ensures im_len { length im.new ≡ length im.old }
     ensures joined { complexes re.new im.new
         ≡ sums (quarter 9) (1024 / half) (complexes (take half re.old) (take half im.old)) (complexes (drop half re.old) (drop half im.old))
-        ++ differences (quarter 9) (1024 / half) (complexes (take half re.old) (take half im.old)) (complexes (drop half re.old) (drop half im.old)) }
+        ++ half_differences (quarter 9) (1024 / half) (complexes (take half re.old) (take half im.old)) (complexes (drop half re.old) (drop half im.old)) }
     ensures re_below { (limit : ℕ) → AreBelow limit re.old → AreBelow limit im.old → AreBelow (3 * limit) re.new }
     ensures im_below { (limit : ℕ) → AreBelow limit re.old → AreBelow limit im.old → AreBelow (3 * limit) im.new }
 {
@@ -51,7 +51,7 @@ fn join_halves(
     ensures sums { complexes even_re.new even_im.new
         ≡ sums (quarter 9) (1024 / length even_re.old) (complexes even_re.old even_im.old) (complexes odd_re.old odd_im.old) }
     ensures differences { complexes odd_re.new odd_im.new
-        ≡ differences (quarter 9) (1024 / length even_re.old) (complexes even_re.old even_im.old) (complexes odd_re.old odd_im.old) }
+        ≡ half_differences (quarter 9) (1024 / length even_re.old) (complexes even_re.old even_im.old) (complexes odd_re.old odd_im.old) }
     ensures below { (limit : ℕ) → HalvesBelow limit even_re.old even_im.old odd_re.old odd_im.old
         → HalvesBelow (3 * limit) even_re.new even_im.new odd_re.new odd_im.new }
 {

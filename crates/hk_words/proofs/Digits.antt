@@ -7,7 +7,7 @@ use Rattle.std.specs.Result.{OkIff, result_ok}
 use Rattle.std.specs.Str.Parse.{ParsesUnsigned}
 use Rattle.std.proofs.lemmas.Bool.{and_from, le-leb}
 use Rattle.std.proofs.lemmas.Str.Parse.{IsNumeralModel, numerals_by_fold, digits_value_short, parse_digits, parse_gives}
-use Rattle.hk_spec_runs.specs.Words.{number_of}
+use Rattle.hk_spec_runs.specs.Words.{number_written}
 
 -- the digits behind a number
 abbrev digits_read : ℕ → List ℕ → ℕ
@@ -21,7 +21,7 @@ none (Ok n) h = absurd (omega (arith, h.0.0))
 none (Err e) h = refl
 
 pub read_is : {E : Type 0} (text : List ℕ) (r : Result ℕ E) → ParsesUnsigned 64 10 text r → length text ≤ 19 → list_all is_ascii_digit text ≡ true
-    → result_ok r ≡ number_of text
+    → result_ok r ≡ number_written text
 read_is [] r parsed few digits = none r (parse_digits own 64 [] r parsed digits)
 read_is (c ∷ cs) r parsed few digits =
     let short : digits_read 0 (c ∷ cs) < 10 ^ 19 = digits_value_short own (c ∷ cs) 19 digits few in

@@ -11,10 +11,10 @@ use Rattle.hk_spec_streams.specs.Pieces.{is_one_of}
 use Rattle.hk_spec_runs.specs.Options as verbs
 use Rattle.hk_spec_runs.specs.Options.{Verb, Choice, Values, Within, OneOf, STATIONS, MADE_STATIONS, FLIPS, HOP, SONGS, POSITIONS, VERSIONS, BYTES, CHANNELS, FACTOR, is_taken, options_for}
 use Rattle.hk_spec_runs.specs.Options.{fits as values_fit}
-use Rattle.hk_spec_runs.specs.Words.{paired, each_once, is_given, options_of, number_of, given_or, default_of}
+use Rattle.hk_spec_runs.specs.Words.{paired, each_once, is_given, options_of, number_written, given_or, default_of}
 use Rattle.hk_words.specs.declared.choice.Choice as Choices
 use Rattle.hk_words.specs.Choices.{choice_of, is_choice, gives, highest}
-use Rattle.hk_words.specs.Options.{texts, pairs_of, behind, are_options, value_fits, RunValuesFit, PrintValuesFit}
+use Rattle.hk_words.specs.Options.{word_texts, pairs_of, behind, are_options, value_fits, RunValuesFit, PrintValuesFit}
 
 pub any-map : {A B : Type 0} (f : A → B) (t : B → Bool) (xs : List A) → list_any (λ x. t (f x)) xs ≡ list_any t (map f xs)
 any-map f t [] = refl
@@ -77,37 +77,37 @@ pub options-none : (choices : List Choice) (words : List (List ℕ)) → are_opt
 options-none choices words not = options-are choices words ∙ ap (λ b. cond b (Some (pairs_of words)) None) not
 
 -- fewer words than two are options if there are none
-pub at_end : {A : Type 0} (choices : List Choice) (rest : List (String A)) → length rest < 2 → (length rest == 0) ≡ are_options choices (texts rest)
+pub at_end : {A : Type 0} (choices : List Choice) (rest : List (String A)) → length rest < 2 → (length rest == 0) ≡ are_options choices (word_texts rest)
 at_end choices [] few = refl
 at_end choices (word ∷ []) few = refl
 at_end choices (word ∷ next ∷ rest) few = absurd (omega arith)
 
 -- what doesn't stand behind the first word stands further on
 pub behind_further : {A : Type 0} (words : List (String A)) (name : List ℕ) (next : String A) (n : ℕ) → 2 ≤ length words → next ≡ get_or words 0 next
-    → bytes_eq name (string_bytes next) ≡ false → n ≡ length words - 2 → behind (texts words) name ≡ behind (texts (take n (drop 2 words))) name
+    → bytes_eq name (string_bytes next) ≡ false → n ≡ length words - 2 → behind (word_texts words) name ≡ behind (word_texts (take n (drop 2 words))) name
 behind_further [] name next n long first other rest = absurd (omega arith)
 behind_further (word ∷ []) name next n long first other rest = absurd (omega arith)
 behind_further (word ∷ number ∷ words) name next n long first other rest =
-    ap (λ w. cond (bytes_eq name (string_bytes w)) (Some (string_bytes number)) (behind (texts words) name)) (sym first)
-    ∙ ap (λ b. cond b (Some (string_bytes number)) (behind (texts words) name)) other
-    ∙ ap (λ ws. behind (texts ws) name) (sym (take_all n words (omega (arith, rest))))
+    ap (λ w. cond (bytes_eq name (string_bytes w)) (Some (string_bytes number)) (behind (word_texts words) name)) (sym first)
+    ∙ ap (λ b. cond b (Some (string_bytes number)) (behind (word_texts words) name)) other
+    ∙ ap (λ ws. behind (word_texts ws) name) (sym (take_all n words (omega (arith, rest))))
 
 -- the number that is given with a name, by the word behind it
 pub given_or-is : (words : List (List ℕ)) (name : List ℕ) (n : ℕ)
-    → given_or (pairs_of words) name n ≡ option_map_or (λ number. unwrap_or (number_of number) 0) (behind words name) n
+    → given_or (pairs_of words) name n ≡ option_map_or (λ number. unwrap_or (number_written number) 0) (behind words name) n
 given_or-is [] name n = refl
 given_or-is (next ∷ []) name n = refl
 given_or-is (next ∷ number ∷ words) name n =
     elim (bytes_eq name next) as (λ b.
-    option_map_or (λ p. unwrap_or (number_of p.1) 0) (cond b (Some (next, number)) (find (λ p. bytes_eq name p.0) (pairs_of words))) n
-    ≡ option_map_or (λ m. unwrap_or (number_of m) 0) (cond b (Some number) (behind words name)) n) [ true ↦ refl | false ↦ given_or-is words name n ]
+    option_map_or (λ p. unwrap_or (number_written p.1) 0) (cond b (Some (next, number)) (find (λ p. bytes_eq name p.0) (pairs_of words))) n
+    ≡ option_map_or (λ m. unwrap_or (number_written m) 0) (cond b (Some number) (behind words name)) n) [ true ↦ refl | false ↦ given_or-is words name n ]
 
 pub given_found : (words : List (List ℕ)) (name : List ℕ) (n : ℕ) (number : List ℕ) → Some number ≡ behind words name
-    → unwrap_or (number_of number) 0 ≡ given_or (pairs_of words) name n
-given_found words name n number found = ap (λ o. option_map_or (λ m. unwrap_or (number_of m) 0) o n) found ∙ sym (given_or-is words name n)
+    → unwrap_or (number_written number) 0 ≡ given_or (pairs_of words) name n
+given_found words name n number found = ap (λ o. option_map_or (λ m. unwrap_or (number_written m) 0) o n) found ∙ sym (given_or-is words name n)
 
 pub given_missing : (words : List (List ℕ)) (name : List ℕ) (n : ℕ) → None ≡ behind words name → n ≡ given_or (pairs_of words) name n
-given_missing words name n missing = ap (λ o. option_map_or (λ m. unwrap_or (number_of m) 0) o n) missing ∙ sym (given_or-is words name n)
+given_missing words name n missing = ap (λ o. option_map_or (λ m. unwrap_or (number_written m) 0) o n) missing ∙ sym (given_or-is words name n)
 
 picked : {A : Type 0} (t f : A → Bool) (xs : List A) → list_any (λ x. t x && f x) xs ≡ list_any f (filter t xs)
 picked t f [] = refl
@@ -120,9 +120,9 @@ abbrev pub IsAlone : List Choice → Choice → Type 0
 IsAlone choices c = (filter (λ d. bytes_eq d.name c.name) choices ≡ c ∷ []) ⊎ (filter (λ d. bytes_eq d.name c.name) choices ≡ [])
 
 taken : (choices : List Choice) (c : Choice) (number : List ℕ) → IsAlone choices c → is_given choices (c.name, number) ≡ true
-    → option_map_or (values_fit c.values) (number_of number) false ≡ true
+    → option_map_or (values_fit c.values) (number_written number) false ≡ true
 taken choices c number alone given =
-    let fit : Choice → Bool = λ d. option_map_or (values_fit d.values) (number_of number) false in
+    let fit : Choice → Bool = λ d. option_map_or (values_fit d.values) (number_written number) false in
     let found : list_any fit (filter (λ d. bytes_eq d.name c.name) choices) ≡ true = sym (picked (λ d. bytes_eq d.name c.name) fit choices) ∙ given in
     elim alone [
       | inl one ↦ sym (or-false (fit c)) ∙ ap (list_any fit) (sym one) ∙ found
@@ -138,10 +138,10 @@ given-is verb name number choices =
     ∙ picked (is_taken verb) (is_choice (name, number)) (map choice_of choices)
 
 -- a value is in its option's range, where the word behind its name is, and else its default
-value_in : (f : ℕ → Bool) (d : ℕ) (word : Option (List ℕ)) → option_map_or (λ n. option_map_or f (number_of n) false) word (f d) ≡ true
-    → f (option_map_or (λ n. unwrap_or (number_of n) 0) word d) ≡ true
+value_in : (f : ℕ → Bool) (d : ℕ) (word : Option (List ℕ)) → option_map_or (λ n. option_map_or f (number_written n) false) word (f d) ≡ true
+    → f (option_map_or (λ n. unwrap_or (number_written n) 0) word d) ≡ true
 value_in f d None fit = fit
-value_in f d (Some word) fit = by (number_of word) fit
+value_in f d (Some word) fit = by (number_written word) fit
   where
     by : (o : Option ℕ) → option_map_or f o false ≡ true → f (unwrap_or o 0) ≡ true
     by (Some n) fit = fit
@@ -150,13 +150,13 @@ value_in f d (Some word) fit = by (number_of word) fit
 -- in words that are options each value fits
 module _ (choices : List Choice) (c : Choice) (d : ℕ) (alone : IsAlone choices c) (default : values_fit c.values d ≡ true) where
   given_fits : (words : List (List ℕ)) → are_options choices words ≡ true
-      → option_map_or (λ n. option_map_or (values_fit c.values) (number_of n) false) (behind words c.name) (values_fit c.values d) ≡ true
+      → option_map_or (λ n. option_map_or (values_fit c.values) (number_written n) false) (behind words c.name) (values_fit c.values d) ≡ true
   given_fits [] are = default
   given_fits (next ∷ []) are = default
   given_fits (next ∷ number ∷ words) are =
       let both = and_parts (is_given choices (next, number)) (not (is_some (behind words next)) && are_options choices words) are in
       let further = and_parts (not (is_some (behind words next))) (are_options choices words) both.1 in
-      let value : Bool → Bool = λ b. option_map_or (λ n. option_map_or (values_fit c.values) (number_of n) false) (cond b (Some number) (behind words c.name)) (values_fit c.values d) in
+      let value : Bool → Bool = λ b. option_map_or (λ n. option_map_or (values_fit c.values) (number_written n) false) (cond b (Some number) (behind words c.name)) (values_fit c.values d) in
       elim (cases_Bool (bytes_eq c.name next)) [
         | inl same ↦
             let name : next ≡ c.name = sym ((bytes_eq-Decides c.name next).0 same) in

@@ -39,7 +39,7 @@ choice_of c = record {
 
 -- whether a name and a number are this option with a value that it may have
 abbrev pub is_choice : List ℕ × List ℕ → options.Choice → Bool
-is_choice pair c = bytes_eq c.name pair.0 && option_map_or (options.fits c.values) (words.number_of pair.1) false
+is_choice pair c = bytes_eq c.name pair.0 && option_map_or (options.fits c.values) (words.number_written pair.1) false
 
 unfoldable pub gives : options.Verb → List ℕ → List ℕ → Choice → Bool
 gives verb name number c = options.is_taken verb (choice_of c) && is_choice (name, number) (choice_of c)

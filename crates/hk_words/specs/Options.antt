@@ -4,8 +4,8 @@ use Rattle.hk_spec_runs.specs.Options.{Choice, FLIPS, HOP, SONGS, POSITIONS, VER
 use Rattle.hk_spec_runs.specs.Words.{is_given, value_of}
 
 -- the words' bytes
-abbrev pub texts : {A : Type 0} → List (String A) → List (List ℕ)
-texts words = map string_bytes words
+abbrev pub word_texts : {A : Type 0} → List (String A) → List (List ℕ)
+word_texts words = map string_bytes words
 
 -- a name and a number, and so on; an odd word at the end is left out
 abbrev pub pairs_of : List (List ℕ) → List (List ℕ × List ℕ)

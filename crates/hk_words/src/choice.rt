@@ -2,7 +2,7 @@
 ghost use Rattle.std.specs.Prelude.{◌≡◌, false};
 ghost use Rattle.std.specs.Option.{option_map_or};
 ghost use Rattle.hk_spec_runs.specs.Options.{fits, is_taken};
-ghost use Rattle.hk_spec_runs.specs.Words.{number_of};
+ghost use Rattle.hk_spec_runs.specs.Words.{number_written};
 ghost use Rattle.hk_words.specs.Choices.{values_meant, verb_meant, choice_of, gives};
 
 use crate::number::read_number;
@@ -178,7 +178,7 @@ impl Choice {
 
     // Whether the word is a number that the option may have.
     fn allows(&self, word: &str) -> bool
-        ensures { result ≡ option_map_or (fits (choice_of self.now).values) (number_of word.now) false }
+        ensures { result ≡ option_map_or (fits (choice_of self.now).values) (number_written word.now) false }
     {
         match read_number(word) {
             Some(value) => self.values.hold(value),

@@ -3,14 +3,14 @@ ghost use Rattle.std.specs.Prelude.{◌≡◌, ◌≤◌, true, map, filter, opt
 ghost use Rattle.hk_spec_runs.specs.Options.{fits, is_taken, options_for};
 ghost use Rattle.hk_spec_runs.specs.Words.{is_given, given_or, default_of, value_of};
 ghost use Rattle.hk_words.specs.Choices.{verb_meant, default_meant, choice_of, highest};
-ghost use Rattle.hk_words.specs.Options.{texts, pairs_of, behind, are_options, value_fits};
+ghost use Rattle.hk_words.specs.Options.{word_texts, pairs_of, behind, are_options, value_fits};
 
 use crate::choice::{Choice, Default, OPTIONS, Verb};
 use crate::number::read_number;
 
 /// Whether the words are options that a command takes, each with a value that it may have, and none twice.
 pub fn are_options(words: &[String], verb: Verb) -> bool
-    ensures { result ≡ are_options (options_for (verb_meant verb)) (texts words.now) }
+    ensures { result ≡ are_options (options_for (verb_meant verb)) (word_texts words.now) }
 {
     let mut rest = words;
     while let [name, number, further @ ..] = rest {
@@ -25,8 +25,8 @@ pub fn are_options(words: &[String], verb: Verb) -> bool
 
 /// The option's value: the number behind its name, or its default.
 pub fn value(words: &[String], choice: &Choice) -> u64
-    requires fits { value_fits (texts words.now) (choice_of choice.now) ≡ true }
-    ensures value { result ≡ value_of (pairs_of (texts words.now)) (choice_of choice.now) }
+    requires fits { value_fits (word_texts words.now) (choice_of choice.now) ≡ true }
+    ensures value { result ≡ value_of (pairs_of (word_texts words.now)) (choice_of choice.now) }
     ensures fits { fits (choice_of choice.now).values result ≡ true }
     ensures most { result ≤ highest (choice_of choice.now).values }
 {
@@ -36,7 +36,7 @@ pub fn value(words: &[String], choice: &Choice) -> u64
 impl Default {
     // The value where the option isn't given.
     fn value(&self, words: &[String]) -> u64
-        ensures { result ≡ default_of (pairs_of (texts words.now)) (default_meant self.now) }
+        ensures { result ≡ default_of (pairs_of (word_texts words.now)) (default_meant self.now) }
     {
         match *self {
             Default::Number(number) => number,
@@ -47,7 +47,7 @@ impl Default {
 
 // The number behind a name, and else this one.
 fn given_or(words: &[String], name: &str, number: u64) -> u64
-    ensures { result ≡ given_or (pairs_of (texts words.now)) name.now number }
+    ensures { result ≡ given_or (pairs_of (word_texts words.now)) name.now number }
 {
     match number_behind(words, name) {
         Some(given) => read_number(given).unwrap_or(0),
@@ -66,7 +66,7 @@ fn is_given(options: &[Choice], verb: Verb, name: &str, number: &str) -> bool
 
 // The number's word of the first option with this name.
 fn number_behind<'a>(words: &'a [String], name: &str) -> Option<&'a str>
-    ensures { option_copied result ≡ behind (texts words.now) name.now }
+    ensures { option_copied result ≡ behind (word_texts words.now) name.now }
 {
     let mut rest = words;
     while let [next, number, further @ ..] = rest {

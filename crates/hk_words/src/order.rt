@@ -1,10 +1,10 @@
 // What the words ask for.
 ghost use Rattle.std.specs.Prelude.{◌≡◌, ℕ, List, ◌∷◌, codes, Some, option_map, IfSome};
-ghost use Rattle.hk_spec_runs.specs.Words.{number_of, rules_of, printing_of, order_for, make_for, order_of};
+ghost use Rattle.hk_spec_runs.specs.Words.{number_written, rules_of, printing_of, order_for, make_for, order_of};
 ghost use Rattle.hk_spec_sound.specs.Limits as limits;
 ghost use Rattle.hk_spec_runs.specs.Options.{Within};
 ghost use Rattle.hk_words.specs.Choices.{choice_of};
-ghost use Rattle.hk_words.specs.Options.{texts, pairs_of, RunValuesFit, PrintValuesFit};
+ghost use Rattle.hk_words.specs.Options.{word_texts, pairs_of, RunValuesFit, PrintValuesFit};
 ghost use Rattle.hk_words.specs.Orders.{rules_meant, printing_meant, order_meant, RulesFit, PrintingFits, OrderFits};
 
 use crate::choice::{
@@ -50,7 +50,7 @@ pub enum Order {
 
 /// What the words behind the program's name ask for; None exactly where they are no command.
 pub fn read_words(words: &Vec<String>) -> Option<Order>
-    ensures order { option_map order_meant result ≡ order_of (texts words.now.items) }
+    ensures order { option_map order_meant result ≡ order_of (word_texts words.now.items) }
     ensures ranges { IfSome result OrderFits }
 {
     match words.as_slice() {
@@ -61,7 +61,7 @@ pub fn read_words(words: &Vec<String>) -> Option<Order>
 
 // The order of a command with the words behind it.
 fn read_command(command: &str, words: &[String]) -> Option<Order>
-    ensures order { option_map order_meant result ≡ order_of (command.now ∷ texts words.now) }
+    ensures order { option_map order_meant result ≡ order_of (command.now ∷ word_texts words.now) }
     ensures ranges { IfSome result OrderFits }
 {
     if command == "make" {
@@ -76,7 +76,7 @@ fn read_command(command: &str, words: &[String]) -> Option<Order>
 }
 
 fn read_replay(words: &[String]) -> Option<Order>
-    ensures order { option_map order_meant result ≡ order_for (codes "replay") (texts words.now) }
+    ensures order { option_map order_meant result ≡ order_for (codes "replay") (word_texts words.now) }
     ensures ranges { IfSome result OrderFits }
 {
     if are_options(words, Verb::Replay) {
@@ -87,7 +87,7 @@ fn read_replay(words: &[String]) -> Option<Order>
 }
 
 fn read_print(words: &[String]) -> Option<Order>
-    ensures order { option_map order_meant result ≡ order_for (codes "print") (texts words.now) }
+    ensures order { option_map order_meant result ≡ order_for (codes "print") (word_texts words.now) }
     ensures ranges { IfSome result OrderFits }
 {
     if are_options(words, Verb::Print) {
@@ -99,7 +99,7 @@ fn read_print(words: &[String]) -> Option<Order>
 
 // The seed stands before the options.
 fn read_make(words: &[String]) -> Option<Order>
-    ensures order { option_map order_meant result ≡ make_for (texts words.now) }
+    ensures order { option_map order_meant result ≡ make_for (word_texts words.now) }
     ensures ranges { IfSome result OrderFits }
 {
     match words {
@@ -110,7 +110,7 @@ fn read_make(words: &[String]) -> Option<Order>
 
 // The order to make an input from a seed.
 fn made(seed: u64, words: &[String]) -> Option<Order>
-    ensures order { (text : List ℕ) → number_of text ≡ Some seed → option_map order_meant result ≡ make_for (text ∷ texts words.now) }
+    ensures order { (text : List ℕ) → number_written text ≡ Some seed → option_map order_meant result ≡ make_for (text ∷ word_texts words.now) }
     ensures ranges { IfSome result OrderFits }
 {
     if hk_limits::SEED.holds(seed) && are_options(words, Verb::Make) {
@@ -126,8 +126,8 @@ fn made(seed: u64, words: &[String]) -> Option<Order>
 // The rules that the options set, with this option for the stations.
 fn run_rules(words: &[String], stations: &Choice) -> RunRules
     requires range { (choice_of stations.now).values ≡ Within limits.STATIONS }
-    requires fits { RunValuesFit (texts words.now) (choice_of stations.now) }
-    ensures rules { rules_meant result ≡ rules_of (choice_of stations.now) (pairs_of (texts words.now)) }
+    requires fits { RunValuesFit (word_texts words.now) (choice_of stations.now) }
+    ensures rules { rules_meant result ≡ rules_of (choice_of stations.now) (pairs_of (word_texts words.now)) }
     ensures ranges { RulesFit result }
 {
     RunRules {
@@ -142,8 +142,8 @@ fn run_rules(words: &[String], stations: &Choice) -> RunRules
 }
 
 fn print_rules(words: &[String]) -> PrintRules
-    requires { PrintValuesFit (texts words.now) }
-    ensures rules { printing_meant result ≡ printing_of (pairs_of (texts words.now)) }
+    requires { PrintValuesFit (word_texts words.now) }
+    ensures rules { printing_meant result ≡ printing_of (pairs_of (word_texts words.now)) }
     ensures ranges { PrintingFits result }
 {
     PrintRules {

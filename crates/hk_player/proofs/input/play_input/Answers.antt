@@ -2,7 +2,7 @@ use Rattle.std.proofs.Common.{◌≡◌, ◌≤◌, ◌+◌, ◌++◌, [], List,
 use Rattle.hk_base.proofs.Taking.{Took-nothing, Wrote-nothing}
 use Rattle.hk_spec_runs.specs.Outcome.{Task}
 use Rattle.hk_player.specs.Playing.{Adds}
-use Rattle.hk_player.specs.Pieces.{StopsAt, IsTorn, HasPlayed}
+use Rattle.hk_player.specs.Pieces.{StopsAt, IsTorn, WasPlayed}
 use Rattle.hk_player.proofs.Steps.{played_piece, stopped_piece, torn_piece, some_read}
 use Rattle.hk_player.proofs.input.play_input.Goals as goal
 
@@ -42,7 +42,7 @@ loop-turn-preserved g c = record {
       let some : 1 ≤ length (take c.in-Bytes.count c.read.new.into) = some_read c.in-Bytes.count c.read.new.into c.in-Bytes.ensures.some (omega (arith, c.in-Bytes.ensures.room)) in
       let long : length (b ++ piece) ≡ length b + length piece = length-append b piece in
       played_piece task so_far.4.0.0 so_far.0 so_far.1 piece _ _ _ _ _ _ so_far.2 c.in-Bytes.ensures.next so_far.3 so_far.4.0.2 all.0
-      (λ bs o. HasPlayed (g.P.Player.has_played c.play_piece.new.player) task bs o × (c.loop-turn._turn + 1 ≤ length bs))
+      (λ bs o. WasPlayed (g.P.Player.has_played c.play_piece.new.player) task bs o × (c.loop-turn._turn + 1 ≤ length bs))
       (subst (λ (k : Task). Adds k so_far.4.0.0 b all.0 (b ++ piece) (g.K.Sink.written c.loop-turn.out) (g.K.Sink.written c.play_piece.new.out)) c.loop-turn.invariant.task_stays all.2)
       (λ o is. ((all.0, all.1, is), omega (arith, so_far.4.1, some, long)));
   no_read_failed = c.in-Bytes.ensures.counts_failures ∙ c.loop-turn.invariant.no_read_failed;

@@ -4,7 +4,7 @@ use Rattle.std.proofs.lemmas.List.{length-take-le}
 use Rattle.std.proofs.lemmas.List.Elements.{All-append, All-take, All-drop, All-same}
 use Rattle.hk_spec_sound.specs.Circle.{quarter}
 use Rattle.hk_spec_sound.specs.Spectrum.{complexes}
-use Rattle.hk_transform.specs.Joined.{sums, differences, HalvesBelow}
+use Rattle.hk_transform.specs.Joined.{sums, half_differences, HalvesBelow}
 use Rattle.hk_transform.proofs.Joining.{complexes-append}
 use Rattle.hk_transform.proofs.narrow.join_block.Goals as goal
 
@@ -20,7 +20,7 @@ returns-clause-joined c =
     let ei = c.split_at_mut-even_im.ensures.front in
     let oi = c.split_at_mut-even_im.ensures.back in
     let front_len : length c.split_at_mut-even_re.result.0.now ≡ half = ap length er ∙ length-take-le half re (omega (arith, c.requires.re_len)) in
-    let both : ℕ → List ℤ → List ℤ → List ℤ → List ℤ → List _ = λ n a b x y. sums (quarter 9) (1024 / n) (complexes a b) (complexes x y) ++ differences (quarter 9) (1024 / n) (complexes a b) (complexes x y) in
+    let both : ℕ → List ℤ → List ℤ → List ℤ → List ℤ → List _ = λ n a b x y. sums (quarter 9) (1024 / n) (complexes a b) (complexes x y) ++ half_differences (quarter 9) (1024 / n) (complexes a b) (complexes x y) in
     complexes-append new.even_re new.odd_re new.even_im new.odd_im (omega (arith, is.even_im_len))
     ∙ ap (λ xs. xs ++ complexes new.odd_re new.odd_im) is.sums
     ∙ ap (λ xs. sums (quarter 9) (1024 / length c.split_at_mut-even_re.result.0.now) (complexes c.split_at_mut-even_re.result.0.now c.split_at_mut-even_im.result.0.now) (complexes c.split_at_mut-even_re.result.1.now c.split_at_mut-even_im.result.1.now) ++ xs) is.differences

@@ -2,18 +2,18 @@ use Rattle.std.proofs.Common.{◌∙◌, sym, ap, Some, option_map}
 use Rattle.hk_spec_runs.specs.Options as verbs
 use Rattle.hk_spec_runs.specs.Options.{STATIONS, options_for}
 use Rattle.hk_spec_runs.specs.Words.{Replay, rules_of}
-use Rattle.hk_words.specs.Options.{texts}
+use Rattle.hk_words.specs.Options.{word_texts}
 use Rattle.hk_words.proofs.Pairs.{replay_values, options-some, options-none}
 use Rattle.hk_words.proofs.order.read_replay.Goals as goal
 
 pub run_rules-requires-clause-fits : goal.run_rules-requires-clause-fits
-run_rules-requires-clause-fits c = replay_values (texts c.args.words.now) (sym c.are_options.ensures ∙ c.if-are_options.true)
+run_rules-requires-clause-fits c = replay_values (word_texts c.args.words.now) (sym c.are_options.ensures ∙ c.if-are_options.true)
 
 pub returns-then-are_options-clause-order : goal.returns-then-are_options-clause-order
 returns-then-are_options-clause-order c =
     ap (λ rules. Some (Replay rules)) c.run_rules.ensures.rules
-    ∙ sym (ap (option_map (λ pairs. Replay (rules_of STATIONS pairs))) (options-some (options_for verbs.Replay) (texts c.args.words.now) (sym c.are_options.ensures ∙ c.if-are_options.true)))
+    ∙ sym (ap (option_map (λ pairs. Replay (rules_of STATIONS pairs))) (options-some (options_for verbs.Replay) (word_texts c.args.words.now) (sym c.are_options.ensures ∙ c.if-are_options.true)))
 
 pub returns-else-are_options-clause-order : goal.returns-else-are_options-clause-order
 returns-else-are_options-clause-order c =
-    sym (ap (option_map (λ pairs. Replay (rules_of STATIONS pairs))) (options-none (options_for verbs.Replay) (texts c.args.words.now) (sym c.are_options.ensures ∙ c.if-are_options.false)))
+    sym (ap (option_map (λ pairs. Replay (rules_of STATIONS pairs))) (options-none (options_for verbs.Replay) (word_texts c.args.words.now) (sym c.are_options.ensures ∙ c.if-are_options.false)))

@@ -1,7 +1,7 @@
 use Rattle.std.proofs.Common.{List, sym, ◌∙◌, ap, subst, Some, eq-eqb}
 use Rattle.std.specs.List.{All}
 use Rattle.std.proofs.lemmas.Bool.{ne_eqb}
-use Rattle.hk_catalogue.specs.Entries.{pairs_of}
+use Rattle.hk_catalogue.specs.Entries.{entry_pairs}
 use Rattle.hk_catalogue.specs.Shelves.{Shelves, HasIn}
 use Rattle.hk_catalogue.specs.CatalogueInside.{IsHeld}
 use Rattle.hk_catalogue.specs.declared.entry.Entry.{Entry}
@@ -18,7 +18,7 @@ returns-then-entry-id-clause-there c =
 pub returns-then-entry-id-clause-slot : goal.returns-then-entry-id-clause-slot
 returns-then-entry-id-clause-slot c =
     let entries : List Entry = c.as_slice-entries.result.now in
-    let held : All (IsHeld c.self.inside.store) (pairs_of entries) = subst (λ (es : List Entry). All (IsHeld c.self.inside.store) (pairs_of es)) (sym c.as_slice-entries.ensures.value) c.self.invariant.held in
+    let held : All (IsHeld c.self.inside.store) (entry_pairs entries) = subst (λ (es : List Entry). All (IsHeld c.self.inside.store) (entry_pairs es)) (sym c.as_slice-entries.ensures.value) c.self.invariant.held in
     subst (λ (s : Shelves). HasIn s c.args.id c.in-Some.entry.now.number) c.self.view_is
     (held_at c.self.inside.store entries c.place_of.result c.in-Some.entry.now held c.in-Some.ensures.lookup.3.0 c.in-Some.ensures.lookup.1
     ∙ ap (λ n. Some n) c.if-entry-id.true)

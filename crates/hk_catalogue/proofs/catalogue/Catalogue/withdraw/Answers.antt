@@ -11,7 +11,7 @@ use Rattle.hk_table.specs.Index.{Index, index_of, slot_at, without_words_at}
 use Rattle.hk_table.proofs.Indexed.{index-clear, some-indexed}
 use Rattle.hk_catalogue.proofs.Counting.{counted-remove}
 use Rattle.hk_catalogue.specs.Refusals.{has_id}
-use Rattle.hk_catalogue.specs.Entries.{pairs_of, AreRising, Splits}
+use Rattle.hk_catalogue.specs.Entries.{entry_pairs, AreRising, Splits}
 use Rattle.hk_catalogue.specs.Shelves.{Shelves, songs_in, songs_of}
 use Rattle.hk_catalogue.specs.CatalogueInside.{as_shelves, IsKept, IsHeld, IsFilled, IsFree, AreDistinct}
 use Rattle.hk_catalogue.specs.declared.entry.Entry.{Entry}
@@ -25,16 +25,16 @@ use Rattle.hk_catalogue.proofs.catalogue.Catalogue.withdraw.Goals as goal
 
 -- the id stands at the place, by the fields
 pub record StandsAt (inside : Inside) (id place : ℕ) : Type 0 where
-  pub splits : Splits (pairs_of inside.index.items) id place
-  pub there : has_id (pairs_of inside.index.items) id ≡ true
+  pub splits : Splits (entry_pairs inside.index.items) id place
+  pub there : has_id (entry_pairs inside.index.items) id ≡ true
   pub within : place < length inside.index.items
 
 stands : (inside : Inside) (shelves : Shelves) (entries : List Entry) (id place : ℕ) → as_shelves inside ≡ shelves → IsKept inside → entries ≡ inside.index.items
-    → has_song (songs_of shelves) id ≡ true → Splits (pairs_of entries) id place → StandsAt inside id place
+    → has_song (songs_of shelves) id ≡ true → Splits (entry_pairs entries) id place → StandsAt inside id place
 stands inside shelves entries id place view kept same has splits =
-    let there : has_id (pairs_of inside.index.items) id ≡ true = has_in_view inside shelves inside.index.items id view refl ∙ has in
-    let here : Splits (pairs_of inside.index.items) id place = subst (λ (es : List Entry). Splits (pairs_of es) id place) same splits in
-    record { splits = here; there = there; within = omega (arith, length-map inside.index.items pair_of, within-at (pairs_of inside.index.items) id place here kept.rising there) }
+    let there : has_id (entry_pairs inside.index.items) id ≡ true = has_in_view inside shelves inside.index.items id view refl ∙ has in
+    let here : Splits (entry_pairs inside.index.items) id place = subst (λ (es : List Entry). Splits (entry_pairs es) id place) same splits in
+    record { splits = here; there = there; within = omega (arith, length-map inside.index.items pair_of, within-at (entry_pairs inside.index.items) id place here kept.rising there) }
 
 pub remove-gone-requires : goal.remove-gone-requires
 remove-gone-requires c =
@@ -75,8 +75,8 @@ gone_id c =
     (has-here c.self.inside.index.items c.args.id c.place_of-place.result c.remove-gone.result (at_call c).splits c.self.invariant.rising (at_call c).within c.remove-gone.ensures.value
     ∙ (at_call c).there)
 
-entries_are : (c : goal.After-push_reserved) → pairs_of c.remove-gone.new.self.items ≡ remove (pairs_of c.self.inside.index.items) c.place_of-place.result
-entries_are c = ap pairs_of c.remove-gone.ensures.items ∙ map-remove pair_of c.self.inside.index.items c.place_of-place.result
+entries_are : (c : goal.After-push_reserved) → entry_pairs c.remove-gone.new.self.items ≡ remove (entry_pairs c.self.inside.index.items) c.place_of-place.result
+entries_are c = ap entry_pairs c.remove-gone.ensures.items ∙ map-remove pair_of c.self.inside.index.items c.place_of-place.result
 
 changed : (c : goal.After-push_reserved) → c.clear.new.self.slots ≡ set c.self.inside.store.slots c.remove-gone.result.number None
 changed c = ap (λ (s : Store). s.slots) c.clear.ensures.cleared
@@ -85,25 +85,25 @@ same : (c : goal.After-push_reserved) → SameBut c.remove-gone.result.number c.
 same c = same_but_set c.self.inside.store c.clear.new.self c.remove-gone.result.number None (changed c)
 
 -- the entries that stay have other slots
-off_slot : (c : goal.After-push_reserved) → All (λ e. e.1 ≢ c.remove-gone.result.number) (remove (pairs_of c.self.inside.index.items) c.place_of-place.result)
+off_slot : (c : goal.After-push_reserved) → All (λ e. e.1 ≢ c.remove-gone.result.number) (remove (entry_pairs c.self.inside.index.items) c.place_of-place.result)
 off_slot c k d low =
-    let index = pairs_of c.self.inside.index.items in
+    let index = entry_pairs c.self.inside.index.items in
     let rest = remove index c.place_of-place.result in
     let other : (get_or rest k d).0 ≢ c.args.id = other_ids c.args.id c.place_of-place.result index (at_call c).splits c.self.invariant.rising (at_call c).there k d low in
     off_other c.self.inside.store (get_or rest k d) (pair_of c.remove-gone.result) (held_gone c)
     (All-remove (IsHeld c.self.inside.store) index c.place_of-place.result c.self.invariant.held k d low) (λ at. other (at ∙ gone_id c))
 
-left : (c : goal.After-push_reserved) → songs_in c.clear.new.self (pairs_of c.remove-gone.new.self.items)
-    ≡ remove (songs_in c.self.inside.store (pairs_of c.self.inside.index.items)) c.place_of-place.result
+left : (c : goal.After-push_reserved) → songs_in c.clear.new.self (entry_pairs c.remove-gone.new.self.items)
+    ≡ remove (songs_in c.self.inside.store (entry_pairs c.self.inside.index.items)) c.place_of-place.result
 left c =
     ap (songs_in c.clear.new.self) (entries_are c)
-    ∙ songs-remove c.self.inside.store c.clear.new.self c.remove-gone.result.number c.place_of-place.result (pairs_of c.self.inside.index.items) (same c) (off_slot c)
+    ∙ songs-remove c.self.inside.store c.clear.new.self c.remove-gone.result.number c.place_of-place.result (entry_pairs c.self.inside.index.items) (same c) (off_slot c)
 
 pub invariant_of-self : goal.invariant_of-self
 invariant_of-self c =
     let inside : Inside = c.self.inside in
     let kept : IsKept inside = c.self.invariant in
-    let index = pairs_of inside.index.items in
+    let index = entry_pairs inside.index.items in
     let new : Store = c.clear.new.self in
     let gone : Entry = c.remove-gone.result in
     let place : ℕ = c.place_of-place.result in
@@ -125,7 +125,7 @@ invariant_of-self c =
       distinct = subst AreDistinct (sym c.push_reserved.ensures.items) (distinct-push inside.free.items gone.number kept.distinct others);
       all_slots = omega (arith, kept.all_slots, c.remove-gone.ensures.len, c.push_reserved.ensures.len, size);
       all_words = omega (arith, sum, ap positions_of (left c), c.clear.ensures.spare, kept.all_words, ap (λ (s : Store). s.positions) c.clear.ensures.cleared);
-      counted = counted-remove inside.store new place (pair_of gone) index (pairs_of c.remove-gone.new.self.items) c.clear.ensures.cleared there
+      counted = counted-remove inside.store new place (pair_of gone) index (entry_pairs c.remove-gone.new.self.items) c.clear.ensures.cleared there
           (omega (arith, (at_call c).within, length-map inside.index.items pair_of)) pair (left c) kept.counted;
       indexed = c.remove.ensures ∙ ap (λ (x : Index). without_words_at x gone.number) kept.indexed ∙ sym (index-clear inside.store gone.number) ∙ ap index_of (sym c.clear.ensures.cleared);
       short = omega (arith, kept.short, size);
@@ -136,5 +136,5 @@ invariant_of-self c =
 pub returns-clause-songs : goal.returns-clause-songs
 returns-clause-songs c =
     left c
-    ∙ songs-without c.self.inside.store c.args.id c.place_of-place.result (pairs_of c.self.inside.index.items) (at_call c).splits c.self.invariant.rising (at_call c).there
+    ∙ songs-without c.self.inside.store c.args.id c.place_of-place.result (entry_pairs c.self.inside.index.items) (at_call c).splits c.self.invariant.rising (at_call c).there
     ∙ ap (λ (s : Shelves). without_song (songs_of s) c.args.id) c.self.view_is

@@ -1,7 +1,7 @@
 use Rattle.std.proofs.Common.{◌≡◌, ◌+◌, ap, subst, arith}
 use Rattle.std.specs.Ordering.{nat_cmp}
 use Rattle.std.specs.FinMap.{put}
-use Rattle.hk_catalogue.specs.Refusals.{Lengths}
+use Rattle.hk_catalogue.specs.Refusals.{SongLengths}
 use Rattle.hk_catalogue.specs.Register.{Register}
 use Rattle.hk_catalogue.specs.RollInside.{as_register, IsKept}
 use Rattle.hk_catalogue.specs.declared.entry.Entry.{Entry}
@@ -31,6 +31,6 @@ returns c =
     let entry : Entry = record { id = c.args.id; number = c.args.length } in
     let place = is_place inside c.args.self.now c.as_slice.result.now c.args.id c.place_of-place.result c.self.view_is c.self.invariant c.as_slice.ensures.value c.place_of-place.ensures.splits in
     let more : IsWith inside entry c.insert.new.self.items = is_with inside c.args.self.now entry c.place_of-place.result c.insert.new.self.items place c.requires c.in-Ok.ensures.items in
-    let with_lengths : Lengths → Register = λ lengths. record (as_register inside) { lengths = lengths } in
+    let with_lengths : SongLengths → Register = λ lengths. record (as_register inside) { lengths = lengths } in
     let new : Register = as_register (record inside { entries = c.insert.new.self; words = inside.words + c.args.length }) in
     subst (λ (roll : Register). new ≡ record roll { lengths = put nat_cmp c.args.id c.args.length roll.lengths }) c.self.view_is (ap with_lengths more.lengths)

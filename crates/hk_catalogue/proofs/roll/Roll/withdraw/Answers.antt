@@ -1,5 +1,5 @@
 use Rattle.std.proofs.Common.{◌≡◌, ◌-◌, ◌==◌, not, filter, ap, subst, arith}
-use Rattle.hk_catalogue.specs.Refusals.{Lengths}
+use Rattle.hk_catalogue.specs.Refusals.{SongLengths}
 use Rattle.hk_catalogue.specs.Register.{Register}
 use Rattle.hk_catalogue.specs.RollInside.{as_register, IsKept}
 use Rattle.hk_catalogue.specs.declared.roll.Roll.TheInside.{Inside}
@@ -38,6 +38,6 @@ returns c =
     let place = is_place inside c.args.self.now c.as_slice.result.now c.args.id c.place_of-place.result c.self.view_is c.self.invariant c.as_slice.ensures.value c.place_of-place.ensures.splits in
     let less : IsWithout inside c.args.id c.remove-gone.result c.remove-gone.new.self.items =
     is_without inside c.args.self.now c.args.id c.place_of-place.result c.remove-gone.result c.remove-gone.new.self.items place c.requires c.remove-gone.ensures.value c.remove-gone.ensures.items in
-    let with_lengths : Lengths → Register = λ lengths. record (as_register inside) { lengths = lengths } in
+    let with_lengths : SongLengths → Register = λ lengths. record (as_register inside) { lengths = lengths } in
     let new : Register = as_register (record inside { entries = c.remove-gone.new.self; words = inside.words - c.remove-gone.result.number }) in
     subst (λ (roll : Register). new ≡ record roll { lengths = filter (λ entry. not (entry.0 == c.args.id)) roll.lengths }) c.self.view_is (ap with_lengths less.lengths)

@@ -4,7 +4,7 @@ use Rattle.std.proofs.lemmas.List.Elements.{All-take, All-drop, All-set, All-app
 use Rattle.std.proofs.lemmas.Int.{to_z-of_z}
 use Rattle.hk_spec_sound.specs.Samples.{decimated, weighted_mean}
 use Rattle.hk_spec_sound.specs.Ranges.{IsSample}
-use Rattle.hk_decimate.specs.Line.{Line, HasTaken}
+use Rattle.hk_decimate.specs.Line.{Line, HasDecimated}
 use Rattle.hk_decimate.proofs.Taking.{taken_whole, taken_part}
 use Rattle.hk_decimate.proofs.decimator.Decimator.push.Goals as goal
 
@@ -12,7 +12,7 @@ pub returns-then-self-whole-clause-taken : goal.returns-then-self-whole-clause-t
 returns-then-self-whole-clause-taken c = λ samples had.
     let s = c.self.inside in
     let x_fits = c.ranges.x in
-    let P : Line → Type 0 = λ line. HasTaken line samples in
+    let P : Line → Type 0 = λ line. HasDecimated line samples in
     let room : s.len < length s.window = omega (arith, c.self.invariant.1, c.self.invariant.2) in
     let front = length-take-le s.len s.window (omega (arith, room)) in
     simp to_z-of_z
@@ -23,7 +23,7 @@ pub returns-then-self-whole-clause-sample : goal.returns-then-self-whole-clause-
 returns-then-self-whole-clause-sample c = λ samples had.
     let s = c.self.inside in
     let x = c.args.x in
-    let P : Line → Type 0 = λ line. HasTaken line samples in
+    let P : Line → Type 0 = λ line. HasDecimated line samples in
     let Q : Line → Type 0 = λ line. decimated line.factor (samples ++ x ∷ []) ≡ decimated line.factor samples ++ [] in
     let room : s.len < length s.window = omega (arith, c.self.invariant.1, c.self.invariant.2) in
     let front = length-take-le s.len s.window (omega (arith, room)) in
@@ -63,7 +63,7 @@ returns-clause-taken c = λ samples had.
     let x_fits = c.ranges.x in
     let x : ℤ = to_z w32 (of_z w32 c.args.x) in
     let x_is : x ≡ c.args.x = to_z-of_z w32 c.args.x x_fits in
-    let P : Line → Type 0 = λ line. HasTaken line samples in
+    let P : Line → Type 0 = λ line. HasDecimated line samples in
     let room : s.len < length s.window = omega (arith, c.self.invariant.1, c.self.invariant.2) in
     let front = length-take-le s.len s.window (omega (arith, room)) in
     let whole = 2 * s.factor - 1 in
@@ -87,7 +87,7 @@ returns-clause-sample c = λ samples had.
     let x_fits = c.ranges.x in
     let x : ℤ = to_z w32 (of_z w32 c.args.x) in
     let x_is : x ≡ c.args.x = to_z-of_z w32 c.args.x x_fits in
-    let P : Line → Type 0 = λ line. HasTaken line samples in
+    let P : Line → Type 0 = λ line. HasDecimated line samples in
     let fits : FitsSigned w32 c.weighted_mean-mean.result = search rules in
     let Q : Line → Type 0 = λ line. decimated line.factor (samples ++ c.args.x ∷ []) ≡ decimated line.factor samples ++ c.weighted_mean-mean.result ∷ [] in
     let room : s.len < length s.window = omega (arith, c.self.invariant.1, c.self.invariant.2) in

@@ -5,7 +5,7 @@ use Rattle.std.proofs.lemmas.List.{append-nil}
 use Rattle.std.proofs.lemmas.List.Elements.{All-drop, All-append, All-same, All-cons, All-nil}
 use Rattle.circular_buffer.specs.Buffer.{Buffer, buffer, keep_last}
 use Rattle.hk_spec_sound.specs.Ranges.{IsSample}
-use Rattle.hk_frames.specs.Recent.{Recent, HasTaken, FRAME_LEN, frames_of}
+use Rattle.hk_frames.specs.Recent.{Recent, HasLastSamples, FRAME_LEN, frames_of}
 use Rattle.hk_frames.proofs.Taking.{taken_whole, taken_part, length-keep_last}
 use Rattle.hk_frames.proofs.ring.Frames.push.Goals as goal
 
@@ -20,21 +20,21 @@ returns-then-self-gt0-clause-taken c = λ samples has.
     let y = c.args.y in
     let was : Recent = record { last = c.self.inside.last.items; missing = c.self.inside.missing } in
     let last = kept c.self.inside.last c.push_back.new.self y _ c.push_back.ensures.items c.self.invariant.0 (to_z-of_z w32 y c.ranges.y) in
-    (taken_part was c.push_back.new.self.items samples y last (omega arith) (subst (λ (r : Recent). HasTaken r samples) (sym c.self.view_is) has)).0
+    (taken_part was c.push_back.new.self.items samples y last (omega arith) (subst (λ (r : Recent). HasLastSamples r samples) (sym c.self.view_is) has)).0
 
 pub returns-then-self-gt0-clause-completes : goal.returns-then-self-gt0-clause-completes
 returns-then-self-gt0-clause-completes c = λ samples has.
     let y = c.args.y in
     let was : Recent = record { last = c.self.inside.last.items; missing = c.self.inside.missing } in
     let last = kept c.self.inside.last c.push_back.new.self y _ c.push_back.ensures.items c.self.invariant.0 (to_z-of_z w32 y c.ranges.y) in
-    (taken_part was c.push_back.new.self.items samples y last (omega arith) (subst (λ (r : Recent). HasTaken r samples) (sym c.self.view_is) has)).1
+    (taken_part was c.push_back.new.self.items samples y last (omega arith) (subst (λ (r : Recent). HasLastSamples r samples) (sym c.self.view_is) has)).1
 
 pub returns-then-self-gt0-clause-frame : goal.returns-then-self-gt0-clause-frame
 returns-then-self-gt0-clause-frame c = λ samples has.
     let y = c.args.y in
     let was : Recent = record { last = c.self.inside.last.items; missing = c.self.inside.missing } in
     let last = kept c.self.inside.last c.push_back.new.self y _ c.push_back.ensures.items c.self.invariant.0 (to_z-of_z w32 y c.ranges.y) in
-    (taken_part was c.push_back.new.self.items samples y last (omega arith) (subst (λ (r : Recent). HasTaken r samples) (sym c.self.view_is) has)).2
+    (taken_part was c.push_back.new.self.items samples y last (omega arith) (subst (λ (r : Recent). HasLastSamples r samples) (sym c.self.view_is) has)).2
     ∙ sym (append-nil (frames_of samples))
 
 pub invariant_of-self-2 : goal.invariant_of-self-2
@@ -57,18 +57,18 @@ returns-clause-taken c = λ samples has.
     let y = c.args.y in
     let was : Recent = record { last = c.self.inside.last.items; missing = c.self.inside.missing } in
     let last = kept c.self.inside.last c.push_back.new.self y _ c.push_back.ensures.items c.self.invariant.0 (to_z-of_z w32 y c.ranges.y) in
-    (taken_whole was c.push_back.new.self.items samples y last (omega (arith, c.self.invariant.1)) (subst (λ (r : Recent). HasTaken r samples) (sym c.self.view_is) has)).0
+    (taken_whole was c.push_back.new.self.items samples y last (omega (arith, c.self.invariant.1)) (subst (λ (r : Recent). HasLastSamples r samples) (sym c.self.view_is) has)).0
 
 pub returns-clause-completes : goal.returns-clause-completes
 returns-clause-completes c = λ samples has.
     let y = c.args.y in
     let was : Recent = record { last = c.self.inside.last.items; missing = c.self.inside.missing } in
     let last = kept c.self.inside.last c.push_back.new.self y _ c.push_back.ensures.items c.self.invariant.0 (to_z-of_z w32 y c.ranges.y) in
-    (taken_whole was c.push_back.new.self.items samples y last (omega (arith, c.self.invariant.1)) (subst (λ (r : Recent). HasTaken r samples) (sym c.self.view_is) has)).1
+    (taken_whole was c.push_back.new.self.items samples y last (omega (arith, c.self.invariant.1)) (subst (λ (r : Recent). HasLastSamples r samples) (sym c.self.view_is) has)).1
 
 pub returns-clause-frame : goal.returns-clause-frame
 returns-clause-frame c = λ samples has.
     let y = c.args.y in
     let was : Recent = record { last = c.self.inside.last.items; missing = c.self.inside.missing } in
     let last = kept c.self.inside.last c.push_back.new.self y _ c.push_back.ensures.items c.self.invariant.0 (to_z-of_z w32 y c.ranges.y) in
-    (taken_whole was c.push_back.new.self.items samples y last (omega (arith, c.self.invariant.1)) (subst (λ (r : Recent). HasTaken r samples) (sym c.self.view_is) has)).2
+    (taken_whole was c.push_back.new.self.items samples y last (omega (arith, c.self.invariant.1)) (subst (λ (r : Recent). HasLastSamples r samples) (sym c.self.view_is) has)).2

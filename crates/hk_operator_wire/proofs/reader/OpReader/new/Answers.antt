@@ -1,6 +1,6 @@
 use Rattle.std.proofs.Common.{[], sym, subst, arith}
 use Rattle.hk_wire.specs.Held.{IsLast}
-use Rattle.hk_operator_wire.specs.Heads.{Ends}
+use Rattle.hk_operator_wire.specs.Heads.{HasLastFour}
 use Rattle.hk_operator_wire.specs.Taken.{IsInOrder}
 use Rattle.hk_operator_wire.proofs.Reading.{in_hello}
 use Rattle.hk_operator_wire.proofs.Coming.{nothing_in_order}
@@ -9,6 +9,6 @@ use Rattle.hk_operator_wire.proofs.reader.OpReader.new.Goals as goal
 pub returns-clause-stands : goal.returns-clause-stands
 returns-clause-stands c = record {
   packet = subst (IsLast c.new.result) (sym (in_hello [] (omega arith))) c.new.ensures.no_bytes;
-  recent = subst (Ends c.new-2.result) (sym (in_hello [] (omega arith))) c.new-2.ensures;
+  recent = subst (HasLastFour c.new-2.result) (sym (in_hello [] (omega arith))) c.new-2.ensures;
   order = subst IsInOrder (sym (in_hello [] (omega arith))) nothing_in_order;
 }

@@ -3,7 +3,7 @@ use Rattle.std.specs.Prelude.{IfOk}
 use Rattle.std.specs.Result.{result_err}
 use Rattle.hk_wire.specs.Held.{IsLast}
 use Rattle.hk_operator_wire.specs.Items.{last_command, head_of, item_of}
-use Rattle.hk_operator_wire.specs.Heads.{Ends, head_fault, hello_outcome}
+use Rattle.hk_operator_wire.specs.Heads.{HasLastFour, head_fault, hello_outcome}
 use Rattle.hk_operator_wire.proofs.Reading.{next_bytes, last_command-next, in_hello, hello_stays, hello_met, hello_item, packet_met, either, last_is, some_next, on_ok, next_last}
 use Rattle.hk_operator_wire.specs.Taken.{IsInOrder}
 use Rattle.hk_operator_wire.proofs.Coming.{next_in_order}
@@ -24,7 +24,7 @@ returns-then-place-lt-HELLO_SIZE-clause-stands c = λ text place h.
     let same : last_command text ≡ last_command (text ++ c.args.byte ∷ []) = in_hello text (omega arith) ∙ sym (hello_stays text c.args.byte (omega arith)) in
     on_ok c.take_hello.result (record {
       packet = subst (IsLast c.args.self.now.packet) same h.packet;
-      recent = subst (Ends c.args.self.now.recent) same h.recent;
+      recent = subst (HasLastFour c.args.self.now.recent) same h.recent;
       order = subst IsInOrder same h.order;
     })
 
@@ -55,7 +55,7 @@ returns-in-None-clause-item c = λ text place h.
     let last : IsLast c.push.new.self (next_bytes (last_command text) c.args.byte) =
     next_last _ c.push.new.self (last_command text) c.args.byte c.args.self.now.long_lengths (c.push.ensures.next (last_command text) h.packet) in
     let head : c.head-head.result ≡ head_of (next_bytes (last_command text) c.args.byte) = c.head-head.ensures bytes last in
-    let recent : Ends c.push-2.new.self (next_bytes (last_command text) c.args.byte) = either (Ends c.push-2.new.self) (last_command text) c.args.byte
+    let recent : HasLastFour c.push-2.new.self (next_bytes (last_command text) c.args.byte) = either (HasLastFour c.push-2.new.self) (last_command text) c.args.byte
     (c.push-2.ensures.begins (last_command text) h.recent) (c.push-2.ensures.goes_on (last_command text) h.recent) in
     c.item.ensures bytes last recent (some_next (last_command text) c.args.byte) head (last_is (last_command text) c.args.byte)
     ∙ sym (ap item_of is)
@@ -66,11 +66,11 @@ returns-in-None-clause-stands c = λ text place h.
     let is : last_command (text ++ c.args.byte ∷ []) ≡ next_bytes (last_command text) c.args.byte = last_command-next text c.args.byte (omega arith) in
     let last : IsLast c.push.new.self (next_bytes (last_command text) c.args.byte) =
     next_last _ c.push.new.self (last_command text) c.args.byte c.args.self.now.long_lengths (c.push.ensures.next (last_command text) h.packet) in
-    let recent : Ends c.push-2.new.self (next_bytes (last_command text) c.args.byte) = either (Ends c.push-2.new.self) (last_command text) c.args.byte
+    let recent : HasLastFour c.push-2.new.self (next_bytes (last_command text) c.args.byte) = either (HasLastFour c.push-2.new.self) (last_command text) c.args.byte
     (c.push-2.ensures.begins (last_command text) h.recent) (c.push-2.ensures.goes_on (last_command text) h.recent) in
     record {
       packet = subst (IsLast c.push.new.self) (sym is) last;
-      recent = subst (Ends c.push-2.new.self) (sym is) recent;
+      recent = subst (HasLastFour c.push-2.new.self) (sym is) recent;
       order = subst IsInOrder (sym is) (next_in_order c.args.place (last_command text) c.args.byte h.order
           (sym (ap (head_fault c.args.place) (c.head-head.ensures bytes last)) ∙ sym c.head_fault.ensures ∙ c.in-None.is));
     }

@@ -16,4 +16,5 @@ returns-clause-new c =
       within = omega arith;
       most = c.requires.limit;
       lines = sym (ap length (silent c.start.new.self.flips (channels_of c.start.new.self) (factor_of c.start.new.self) channels));
+      none_met = refl;
     }

@@ -21,7 +21,7 @@ returns-in-Err-write_stations-clause-torn g c = λ is refused text h.
       (
         summary rules scene,
         whole_is rules refused text h.in_form.no_fault,
-        (failed_within (operator_line (length (commands scene.calls.used)) (length scene.state.journal) (operator_end_of rules scene.calls)) stations).front,
+        (failed_within (operator_line (length (commands scene.operator_stream.used)) (length scene.state.journal) (operator_end_of rules scene.operator_stream)) stations).front,
       ),
     )
 
@@ -31,7 +31,7 @@ returns-in-Ok-write_operator-clause-whole g c = λ refused text h.
     let scene : Scene = scene_after rules refused text in
     let hears : AreHearing rules 0 c.as_mut_slice.result.now scene.listeners = rw c.as_mut_slice.ensures.value h.holds.hears in
     let last = c.finish-end.ensures.end rules _ _ _ h.holds.obeys in
-    let line = operator_line_is _ _ _ _ _ _ (c.commands.ensures rules (shelf_of c.args.self.now.catalogue) scene.calls scene.state (rw c.finish-end.ensures.changes_nothing h.holds.obeys)) (c.version.ensures ∙ ap (λ p. p.0) h.holds.obeys.shelf.base) last in
+    let line = operator_line_is _ _ _ _ _ _ (c.commands.ensures rules (shelf_of c.args.self.now.catalogue) scene.operator_stream scene.state (rw c.finish-end.ensures.changes_nothing h.holds.obeys)) (c.version.ensures ∙ ap (λ p. p.0) h.holds.obeys.shelf.base) last in
     let operator = subst (λ t. HasWritten g.K.Sink t c.write_stations.new.out c.write_operator.new.sink) line c.in-Ok-write_operator.ensures.whole in (
       between rules c.args.self.now refused text h _ c.finish.result (c.finish.ensures.ends text h.read) c.in_default.not-Err,
       ended_is rules refused text h.in_form.no_fault
@@ -45,7 +45,7 @@ returns-in-Err-write_operator-clause-torn g c = λ is refused text h.
     let scene : Scene = scene_after rules refused text in
     let hears : AreHearing rules 0 c.as_mut_slice.result.now scene.listeners = rw c.as_mut_slice.ensures.value h.holds.hears in
     let last = c.finish-end.ensures.end rules _ _ _ h.holds.obeys in
-    let line = operator_line_is _ _ _ _ _ _ (c.commands.ensures rules (shelf_of c.args.self.now.catalogue) scene.calls scene.state (rw c.finish-end.ensures.changes_nothing h.holds.obeys)) (c.version.ensures ∙ ap (λ p. p.0) h.holds.obeys.shelf.base) last in
+    let line = operator_line_is _ _ _ _ _ _ (c.commands.ensures rules (shelf_of c.args.self.now.catalogue) scene.operator_stream scene.state (rw c.finish-end.ensures.changes_nothing h.holds.obeys)) (c.version.ensures ∙ ap (λ p. p.0) h.holds.obeys.shelf.base) last in
     let operator = subst (λ t. HasFailed g.K.Sink t c.write_stations.new.out c.write_operator.new.sink) line c.in-Err-write_operator.ensures.torn in (
       between rules c.args.self.now refused text h _ c.finish.result (c.finish.ensures.ends text h.read) c.in_default.not-Err,
       (summary rules scene, whole_is rules refused text h.in_form.no_fault, (failed_behind (c.in-Ok.ensures.whole rules scene.listeners hears) operator).front),

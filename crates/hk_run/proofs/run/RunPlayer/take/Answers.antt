@@ -80,7 +80,7 @@ returns-in-Ok-clause-going g c = λ is refused text h.
           (plays_on rules run refused text byte h _ read c.in-Operator.ensures.limit c.in-Operator.ensures.stations c.obey.new.self next.0 _ came.0 c.in-Some.ensures.reader_stays next.2 next.1
           (record { hears = told.4.hears; obeys = told.4.obeys })),
       adds_all rules run refused text byte h next.0 came.0 _ next.2 _ _ (
-        Replied (length (commands scene.calls.used) + 1) c.in-Some.reply.what ∷ [],
+        Replied (length (commands scene.operator_stream.used) + 1) c.in-Some.reply.what ∷ [],
         refl,
         written_as _ _ c.in-Some.reply.what _ _ told.2 c.in-Ok.ensures.whole.appended,
       ),
@@ -96,7 +96,7 @@ returns-in-Err-clause-torn g c = λ is refused text h.
     let told = c.in-Some.ensures.replies rules scene (held_by rules run _ scene refl refl refl h.holds) in
     let next = reply_settled rules refused text h.settled (text ++ byte ∷ []) _ came.1 told.0 told.1 c.in-Some.reply.what told.3 in
     adds_some rules run refused text byte h next.0 came.0 _ next.2 _ _ (
-      Replied (length (commands scene.calls.used) + 1) c.in-Some.reply.what ∷ [],
+      Replied (length (commands scene.operator_stream.used) + 1) c.in-Some.reply.what ∷ [],
       refl,
       front_as _ _ c.in-Some.reply.what _ _ told.2 c.in-Err.ensures.torn.front,
     )

@@ -6,11 +6,11 @@ use Rattle.std.specs.Vec.{with_item, with_items}
 use Rattle.std.proofs.lemmas.List.{with_items_is, length-map, length-set}
 use Rattle.std.proofs.lemmas.List.Sums.{sum_by-set}
 use Rattle.hk_table.specs.Store.{Store, spare, without_song_at}
-use Rattle.hk_table.specs.Extents.{tracks_of, IsWithin, IsSlotWithin, IsSlotApart, AreApart, length_of, lengths_in, moved_down}
+use Rattle.hk_table.specs.Extents.{extent_songs, IsWithin, IsSlotWithin, IsSlotApart, AreApart, length_of, lengths_in, moved_down}
 use Rattle.hk_table.specs.Inside.{IsKept}
 use Rattle.hk_table.specs.declared.extent.Extent.{Extent}
 use Rattle.hk_table.specs.declared.song_store.SongStore.TheInside.{Inside}
-use Rattle.hk_table.proofs.Moves.{closed, left, length-closed, tracks-left, others_apart, within-left, apart-left, lengths-moved}
+use Rattle.hk_table.proofs.Moves.{closed, left, length-closed, songs-left, others_apart, within-left, apart-left, lengths-moved}
 use Rattle.hk_table.proofs.Room.{there_from_some, there_in_view, words_fit, spare-clear}
 use Rattle.hk_table.proofs.song_store.SongStore.clear.Goals as goal
 
@@ -69,11 +69,11 @@ returns-clause-cleared c =
     let inside : Inside = c.self.inside in
     let gone : Extent = c.in-Some.gone in
     let slots : List (Option Extent) = (with_items (with_item inside.slots c.args.slot None) c.close_up.new.slots).items in
-    let closed_up : tracks_of c.cut_out.new.words.items slots ≡ set (tracks_of inside.words.items inside.slots.items) c.args.slot None =
-    ap (λ ws. tracks_of ws slots) c.cut_out.ensures.words
-    ∙ ap (tracks_of (closed inside.words.items gone)) (slots_are c)
-    ∙ tracks-left inside.words.items inside.slots.items c.args.slot gone (here c) (others c) in
-    let new : Store = record { slots = tracks_of c.cut_out.new.words.items slots; positions = inside.positions } in
+    let closed_up : extent_songs c.cut_out.new.words.items slots ≡ set (extent_songs inside.words.items inside.slots.items) c.args.slot None =
+    ap (λ ws. extent_songs ws slots) c.cut_out.ensures.words
+    ∙ ap (extent_songs (closed inside.words.items gone)) (slots_are c)
+    ∙ songs-left inside.words.items inside.slots.items c.args.slot gone (here c) (others c) in
+    let new : Store = record { slots = extent_songs c.cut_out.new.words.items slots; positions = inside.positions } in
     subst (λ (s : Store). new ≡ without_song_at s c.args.slot) c.self.view_is (λ i. record { slots = closed_up i; positions = inside.positions })
 
 pub returns-clause-spare : goal.returns-clause-spare

@@ -1,12 +1,12 @@
 -- The song stands behind all others, and its slot is the only one that changes.
 use Rattle.std.proofs.Common.{◌≡◌, ◌+◌, ◌++◌, ℕ, List, length, get_or, set, ◌∙◌, ap, arith, subst, length-append, Option, Some, None}
 use Rattle.std.proofs.lemmas.List.Sums.{sum_by-set}
-use Rattle.hk_table.specs.Store.{Store, Track, spare, with_song_at}
-use Rattle.hk_table.specs.Extents.{tracks_of, IsWithin, length_of}
+use Rattle.hk_table.specs.Store.{Store, SongWithId, spare, with_song_at}
+use Rattle.hk_table.specs.Extents.{extent_songs, IsWithin, length_of}
 use Rattle.hk_table.specs.Inside.{IsKept}
 use Rattle.hk_table.specs.declared.extent.Extent.{Extent}
 use Rattle.hk_table.specs.declared.song_store.SongStore.TheInside.{Inside}
-use Rattle.hk_table.proofs.Extents.{behind, tracks-behind, within-behind, apart-behind}
+use Rattle.hk_table.proofs.Extents.{behind, songs-behind, within-behind, apart-behind}
 use Rattle.hk_table.proofs.Room.{room_left, slot_there, slot_empty, spare-put}
 use Rattle.hk_table.proofs.song_store.SongStore.put.Goals as goal
 
@@ -43,17 +43,17 @@ returns-clause-put c =
     let inside : Inside = c.self.inside in
     let slots : List (Option Extent) = inside.slots.items in
     let words : List ℕ = inside.words.items in
-    let song : Track = c.args.song.now in
+    let song : SongWithId = c.args.song.now in
     let extent : Extent = record { id = c.id.result; start = c.len-start.result; length = length c.words-words.result.now } in
     let at : c.len-start.result ≡ length words = omega (arith, c.len-start.ensures, inside.words.ok) in
     let same : c.words-words.result.now ≡ song.words = c.words-words.ensures.words in
     let is : extent ≡ behind words song = λ i. record { id = c.id.ensures i; start = at i; length = length (same i) } in
     let longer : c.extend_from_slice.new.self.items ≡ words ++ song.words = c.in-Ok.ensures.items ∙ ap (λ ws. words ++ ws) same in
-    let grown : tracks_of c.extend_from_slice.new.self.items (set slots c.args.slot (Some extent)) ≡ set (tracks_of words slots) c.args.slot (Some song) =
-    ap (λ ws. tracks_of ws (set slots c.args.slot (Some extent))) longer
-    ∙ ap (λ x. tracks_of (words ++ song.words) (set slots c.args.slot (Some x))) is
-    ∙ tracks-behind words slots c.args.slot song c.self.invariant.within in
-    let new : Store = record { slots = tracks_of c.extend_from_slice.new.self.items (set slots c.args.slot (Some extent)); positions = inside.positions } in
+    let grown : extent_songs c.extend_from_slice.new.self.items (set slots c.args.slot (Some extent)) ≡ set (extent_songs words slots) c.args.slot (Some song) =
+    ap (λ ws. extent_songs ws (set slots c.args.slot (Some extent))) longer
+    ∙ ap (λ x. extent_songs (words ++ song.words) (set slots c.args.slot (Some x))) is
+    ∙ songs-behind words slots c.args.slot song c.self.invariant.within in
+    let new : Store = record { slots = extent_songs c.extend_from_slice.new.self.items (set slots c.args.slot (Some extent)); positions = inside.positions } in
     subst (λ (s : Store). new ≡ with_song_at s c.args.slot song) c.self.view_is (λ i. record { slots = grown i; positions = inside.positions })
 
 pub returns-clause-spare : goal.returns-clause-spare

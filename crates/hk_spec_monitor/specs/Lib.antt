@@ -1,0 +1,9 @@
+pub mod Looks
+pub mod Run
+pub mod Fences
+pub mod Causes
+pub mod Summary
+pub mod Setup
+pub mod Devices
+pub mod Laws
+pub mod Examples
