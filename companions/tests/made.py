@@ -1,0 +1,133 @@
+"""What the tests share: made sound, running hk, the model of the tools, and the built program."""
+
+import io
+import math
+import os
+import random
+import subprocess
+import sys
+import tempfile
+import unittest
+import wave
+from array import array
+from contextlib import redirect_stderr, redirect_stdout
+
+HERE = os.path.dirname(os.path.dirname(os.path.abspath(__file__)))
+REPOSITORY = os.path.dirname(HERE)
+HK = os.path.join(HERE, "hk")
+TOOLS = os.path.join(REPOSITORY, "tools")
+sys.path[:0] = [HERE] + [
+    os.path.join(TOOLS, name)
+    for name in ("model", "replays", "", "../examples")
+    if os.path.isdir(os.path.join(TOOLS, name))
+]
+
+from companion.command import main  # noqa: E402
+from companion.program import program_path  # noqa: E402
+
+PROGRAM = program_path()
+RATE = 11025
+# of sound in the tests: one channel and the factor 2, so that it is small
+FORM = {"channels": 1, "factor": 2, "rate": RATE}
+NEEDS_PROGRAM = unittest.skipIf(PROGRAM is None, "hkreplay isn't built")
+
+
+def tune(seed, seconds):
+    """Made music: a new chord of four tones each fifth of a second, and a little noise; samples of one channel."""
+    draw, samples = random.Random(seed), array("h")
+    step = RATE // 5
+    for _ in range(math.ceil(seconds * 5)):
+        tones = [(draw.uniform(300, 2000), draw.uniform(1000, 4000), draw.uniform(0, 6)) for _ in range(4)]
+        for place in range(step):
+            second = place / RATE
+            heard = sum(loud * math.sin(2 * math.pi * tone * second + phase) for tone, loud, phase in tones)
+            samples.append(round(heard + draw.uniform(-300, 300)))
+    return samples[: round(seconds * RATE)]
+
+
+def silence(seconds):
+    return array("h", bytes(2 * round(seconds * RATE)))
+
+
+def noisy(samples, seed, loudness):
+    draw = random.Random(seed)
+    return array(
+        "h", (max(-32768, min(32767, sample + round(draw.uniform(-loudness, loudness)))) for sample in samples)
+    )
+
+
+def raw(samples):
+    """Low byte first."""
+    if sys.byteorder == "big":
+        samples = array("h", samples)
+        samples.byteswap()
+    return samples.tobytes()
+
+
+def write_wave(path, samples):
+    with wave.open(path, "wb") as file:
+        file.setnchannels(1)
+        file.setsampwidth(2)
+        file.setframerate(RATE)
+        file.writeframes(raw(samples))
+
+
+def write_raw(path, samples):
+    with open(path, "wb") as file:
+        file.write(raw(samples))
+
+
+def hk(*words):
+    """The status, and what went to standard output and standard error."""
+    out, err = io.StringIO(), io.StringIO()
+    with redirect_stdout(Kept(out)), redirect_stderr(err):
+        try:
+            status = main([str(word) for word in words])
+        except SystemExit as end:
+            status = end.code
+    return status, out.getvalue(), err.getvalue()
+
+
+class Kept(io.TextIOBase):
+    """Standard output that stays readable when it is closed."""
+
+    def __init__(self, to):
+        self.to = to
+
+    def writable(self):
+        return True
+
+    def write(self, text):
+        return self.to.write(text)
+
+
+def replayed(path, *options):
+    """The status and the text of hkreplay on an input."""
+    with open(path, "rb") as file:
+        done = subprocess.run([PROGRAM, "replay", *options], stdin=file, stdout=subprocess.PIPE, check=False)
+    return done.returncode, done.stdout.decode()
+
+
+class InFolder(unittest.TestCase):
+    """A test with a folder of its own."""
+
+    def setUp(self):
+        folder = tempfile.TemporaryDirectory()
+        self.addCleanup(folder.cleanup)
+        self.folder = folder.name
+
+    def path(self, name):
+        return os.path.join(self.folder, name)
+
+    def write(self, name, text):
+        with open(self.path(name), "w", encoding="utf-8") as file:
+            file.write(text)
+        return self.path(name)
+
+    def text(self, name):
+        with open(self.path(name), encoding="utf-8") as file:
+            return file.read()
+
+    def content(self, name):
+        with open(self.path(name), "rb") as file:
+            return file.read()
