@@ -1,5 +1,5 @@
 -- Steps of a player one after another, as what they read and write.
-use Rattle.std.proofs.Common.{◌≡◌, ℕ, ◌+◌, ◌<◌, ◌≤◌, List, [], ◌∷◌, ◌++◌, length, take, drop, get_or, sym, ◌∙◌, ap, arith, append_assoc, append-nil, add-one, drop-cons, Option}
+use Rattle.std.proofs.Common.{◌≡◌, ℕ, ◌+◌, ◌<◌, ◌≤◌, List, [], ◌∷◌, ◌++◌, length, take, drop, get_or, sym, subst, ◌∙◌, ap, arith, append_assoc, append-nil, add-one, drop-cons, Option}
 use Rattle.std.proofs.lemmas.List.{take-append-drop, take_more, take_rest, length-take-le}
 use Rattle.std.specs.Prelude.{slice_range}
 use Rattle.std.proofs.Math.Seq.{take-append-add}
@@ -71,6 +71,46 @@ on_from text piece at n inside =
     (ap (λ k. take (k + n) piece) (sym front) ∙ ap (take (length (take at piece) + n)) (sym (take-append-drop at piece)) ∙ take-append-add (take at piece) (drop at piece) n
     ∙ ap (λ rest. take at piece ++ take n rest) (sym (take_rest piece at)))
     ∙ sym (append_assoc text (take at piece) (take n (slice_range piece at (length piece))))
+
+-- a player that listened to more of a piece: what it has played, and what was written for it
+pub listened_on : (t k : Task) (HasPlayed : List ℕ → List ℕ → Type 0) (r text r' piece : List ℕ) (at n : ℕ) (w x : Option (List ℕ)) → k ≡ t → at ≤ length piece
+    → Adds t r text r' (text ++ take at piece) w x
+    → HasPlayed r' ((text ++ take at piece) ++ take n (slice_range piece at (length piece)))
+    × (k.text ((text ++ take at piece) ++ take n (slice_range piece at (length piece))) r' ≡ k.text (text ++ take at piece) r')
+    → HasPlayed r' (text ++ take (at + n) piece) × Adds t r text r' (text ++ take (at + n) piece) w x
+listened_on t k HasPlayed r text r' piece at n w x same inside adds heard =
+    let start = text ++ take at piece in
+    let more = take n (slice_range piece at (length piece)) in
+    let on : text ++ take (at + n) piece ≡ start ++ more = on_from text piece at n inside in
+    let quiet : t.text (start ++ more) r' ≡ t.text start r' = subst (λ (k : Task). k.text (start ++ more) r' ≡ k.text start r') same heard.1 in (
+      subst (λ (b : List ℕ). HasPlayed r' b) (sym on) heard.0,
+      Adds-listened t r text r' start (text ++ take (at + n) piece) w x adds (ap (λ b. t.text b r') on ∙ quiet),
+    )
+
+-- byte i of a piece is taken, by a player of the same task
+module _ (t k : Task) (same : k ≡ t) (r text r' piece : List ℕ) (i : ℕ) (inside : i < length piece) (w x : Option (List ℕ))
+    (adds : Adds t r text r' (text ++ take i piece) w x) where
+  pub stops_in : (trouble : Trouble) → StopsBehind k r' (text ++ take i piece) (get_or piece i 0) trouble → StopsAt t r text (text ++ piece) trouble w x
+  stops_in trouble behind =
+      let mid = text ++ take i piece in
+      subst (λ (whole : List ℕ). StopsAt t r text whole trouble w x) (sym (around text piece i inside))
+      (stops t r text r' mid (get_or piece i 0) (drop (i + 1) piece) trouble w x adds
+      (subst (λ (k : Task). StopsBehind k r' mid (get_or piece i 0) trouble) same behind))
+
+  pub tears_in : (y : Option (List ℕ)) → TearsBehind k r' (text ++ take i piece) (get_or piece i 0) x y → IsTorn t r text (text ++ piece) w y
+  tears_in y behind =
+      let mid = text ++ take i piece in
+      subst (λ (whole : List ℕ). IsTorn t r text whole w y) (sym (around text piece i inside))
+      (tears t r text r' mid (get_or piece i 0) (drop (i + 1) piece) w x y adds
+      (subst (λ (k : Task). TearsBehind k r' mid (get_or piece i 0) x y) same behind))
+
+  pub goes_in : (r'' : List ℕ) (y : Option (List ℕ)) → Adds k r' (text ++ take i piece) r'' ((text ++ take i piece) ++ get_or piece i 0 ∷ []) x y
+      → Adds t r text r'' (text ++ take (i + 1) piece) w y
+  goes_in r'' y went =
+      let mid = text ++ take i piece in
+      let long = mid ++ get_or piece i 0 ∷ [] in
+      subst (λ (b : List ℕ). Adds t r text r'' b w y) (sym (further text piece i inside))
+      (Adds-append t r text r' mid r'' long w x y adds (subst (λ (k : Task). Adds k r' mid r'' long x y) same went))
 
 -- A piece behind all bytes that were read so far.
 module _ (t : Task) (r b o piece : List ℕ) (x y z : Option (List ℕ)) (u v w : Option (List ℕ))

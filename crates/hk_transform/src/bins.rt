@@ -4,9 +4,9 @@ ghost use Rattle.hk_spec_sound.specs.Circle.{quarter};
 ghost use Rattle.hk_spec_sound.specs.Spectrum.{Complex, complexes, transform, AreBelow};
 ghost use Rattle.hk_transform.specs.Parts.{halves_of};
 
-use crate::narrow::item_at;
-use crate::narrow_stages::ten_stages;
+use crate::last::last_joined;
 use crate::order::{BitReversal, load_reversed};
+use crate::stages::ten_stages;
 use hk_circle::Circle;
 
 // The bins of all bands, up to and without `HIGHEST`.
@@ -55,9 +55,7 @@ fn last_stage(circle: &Circle, halves_re: &[i32], halves_im: &[i32], re: &mut [i
     let cos = circle.stage_cosines(10, 1024);
     let sin = circle.stage_sines(10, 1024);
     for k in LOWEST..HIGHEST {
-        let even = item_at(halves_re, halves_im, k);
-        let odd = item_at(halves_re, halves_im, 1024 + k);
-        let bin = even.plus(odd.turned_back(i64::from(cos[k]), i64::from(sin[k])));
+        let bin = last_joined(cos, sin, halves_re, halves_im, k).low;
         re[k] = bin.re;
         im[k] = bin.im;
     }

@@ -2,7 +2,7 @@ use Rattle.std.proofs.Common.{◌≡◌, ◌-◌, ◌*◌, ◌^◌, ◌≤◌, L
 use Rattle.hk_spec_sound.specs.Circle.{quarter}
 use Rattle.hk_spec_sound.specs.Spectrum.{Complex, complexes, transform, AreBelow}
 use Rattle.hk_transform.specs.Parts.{joined_lists, parts_of}
-use Rattle.hk_transform.proofs.narrow_stages.ten_stages.Given as goal
+use Rattle.hk_transform.proofs.stages.ten_stages.Given as goal
 
 -- Before a stage the blocks have the transforms of the parts with the digits that are left.
 abbrev pub invariant-loop-before : goal.invariant-loop-before

@@ -4,7 +4,7 @@ use Rattle.hk_spec_sound.specs.Spectrum.{complexes, transform}
 use Rattle.hk_transform.specs.Parts.{joined_lists, parts_of}
 use Rattle.hk_transform.proofs.Blocks.{doubled}
 use Rattle.hk_transform.proofs.Parts.{map_none, next_stage, last_halves, blocks_of}
-use Rattle.hk_transform.proofs.narrow_stages.ten_stages.Goals as goal
+use Rattle.hk_transform.proofs.stages.ten_stages.Goals as goal
 
 pub loop-before-init : goal.loop-before-init
 loop-before-init c = record {
