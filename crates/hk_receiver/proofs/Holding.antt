@@ -14,7 +14,7 @@ use Rattle.hk_receiver.proofs.Blocks.{same_blocks, begun_blocks, grown_blocks, n
 use Rattle.hk_receiver.proofs.Segments.{gains_part}
 
 -- two lists with the same last item
-same_last : {A : Type 0} (xs ys : List A) (x y : A) → xs ++ x ∷ [] ≡ ys ++ y ∷ [] → (xs ≡ ys) × (x ≡ y)
+pub same_last : {A : Type 0} (xs ys : List A) (x y : A) → xs ++ x ∷ [] ≡ ys ++ y ∷ [] → (xs ≡ ys) × (x ≡ y)
 same_last [] [] x y is = (refl, cc)
 same_last [] (b ∷ []) x y is = absurd (cc)
 same_last [] (b ∷ c ∷ ys) x y is = absurd (cc)
@@ -30,7 +30,7 @@ module _ (s : Setting) (full : s.analysis ≡ full_analysis) (some : 0 < s.block
   abbrev t : List ℕ
   t = text ++ b ∷ []
 
-  closed : gap_is_open text ≡ false → segments text ≡ h.before ++ h.bytes ∷ []
+  pub closed : gap_is_open text ≡ false → segments text ≡ h.before ++ h.bytes ∷ []
   closed shut = h.are ∙ ap (λ g. h.before ++ h.bytes ∷ cond g ([] ∷ []) []) shut
 
   -- what is held, and what the byte adds to the blocks

@@ -4,3 +4,4 @@ mod Blocks
 mod Holding
 mod Telling
 pub mod Beginning
+mod Listening

@@ -39,7 +39,7 @@ module _ (s : Setting) (form : Form) (old : Segment) (bytes : List ℕ) (has : H
   prints = prints_by s form bytes
 
   module _ (sound : (form.channels == 0) ≡ false) where
-    of_front : (all : List ℕ) → prints_by s form all ≡ fronts.prints_in old.front all
+    pub of_front : (all : List ℕ) → prints_by s form all ≡ fronts.prints_in old.front all
     of_front all =
         let h = has.hears sound in
         by_front s form.channels form.factor all has.set.analysis sound
@@ -88,6 +88,23 @@ module _ (s : Setting) (form : Form) (old : Segment) (bytes : List ℕ) (has : H
         ∙ ring_adds s old.number old.ring new.ring p prints has.set.block_size (sym has.set.hop_is) takes adds places has.prints
         ∙ ap (λ c. blocks_of_segment s old.number prints ++ cond c (block_in old.number new.ring ∷ []) []) (sym is)
         ∙ ap (λ n. blocks_of_segment s old.number prints ++ cond full (block_in n new.ring ∷ []) []) (sym same_number);
+  }
+
+-- bytes of sound that complete no print
+module _ (s : Setting) (form : Form) (old : Segment) (bytes more : List ℕ) (has : HasBytes s form old bytes) (sound : (form.channels == 0) ≡ false) where
+  pub no_print_heard : fronts.prints_in old.front (bytes ++ more) ≡ fronts.prints_in old.front bytes → prints_by s form (bytes ++ more) ≡ prints_by s form bytes
+  no_print_heard same = of_front s form old bytes has 0 sound (bytes ++ more) ∙ same ∙ sym (of_front s form old bytes has 0 sound bytes)
+
+  pub listens_on : (new : Segment) → new.ring ≡ old.ring → KeepsRules old.front new.front → fronts.HasAnalysed new.front (bytes ++ more)
+      → prints_by s form (bytes ++ more) ≡ prints_by s form bytes → HasBytes s form new (bytes ++ more)
+  listens_on new same_ring keeps taken same = record {
+    set = still_for s old.front.flips old.ring.hop has.set keeps.0 (ap (λ ring. ring.hop) same_ring);
+    prints = subst (λ ring. rings.HasLastPrints ring (prints_by s form (bytes ++ more))) (sym same_ring) (subst (rings.HasLastPrints old.ring) (sym same) has.prints);
+    hears = λ _. record {
+      channels = keeps.1.0 ∙ (has.hears sound).channels;
+      factor = keeps.1.1 ∙ (has.hears sound).factor;
+      taken = taken;
+    };
   }
 
 -- no byte yet, in this form

@@ -1,3 +1,4 @@
 pub mod Segment
 pub mod Kept
 pub mod Received
+pub mod Quiet

@@ -1,5 +1,5 @@
 // From a station's bytes to its blocks and fences.
-ghost use Rattle.std.specs.Prelude.{◌≡◌, ◌≤◌, ◌<◌, ◌+◌, ◌-◌, ◌^◌, [], ℕ, List, IfOk, IsTrue, true, if◌then◌else◌};
+ghost use Rattle.std.specs.Prelude.{◌≡◌, ◌≤◌, ◌<◌, ◌+◌, ◌-◌, ◌^◌, ◌++◌, [], ℕ, List, length, take, IfOk, IsTrue, true, if◌then◌else◌};
 ghost use Rattle.std.specs.Result.{result_err};
 ghost use Rattle.hk_spec_streams.specs.Station.{station_wrong};
 ghost use Rattle.hk_spec_settings.specs.Settings.{Rules};
@@ -39,6 +39,7 @@ pub struct Receiver {
 
 impl Receiver {
     ghost use Rattle.hk_receiver.specs.Received.{HasReceived, Tells, ForEachText, ring_of, segment_of, block_count};
+    ghost use Rattle.hk_receiver.specs.Quiet.{AreQuiet};
 
     /// A receiver before its first byte, of a stream of at most `limit` bytes. `flips` bits of a print of sound are weak,
     /// and blocks begin `hop` prints apart. It takes all memory that it needs.
@@ -85,6 +86,22 @@ impl Receiver {
             }
             Item::Fault(fault) => Received::Fault(fault),
         }
+    }
+
+    /// Takes a front of the piece that is sound and completes nothing, and answers how many bytes it has.
+    pub fn listen(&mut self, piece: &[u8]) -> usize
+        ensures within { result ≤ length piece.now }
+        ensures goes_on { ForEachText self.old (λ rules text. HasReceived rules self.new (text ++ take result piece.now)) }
+        ensures quiet { ForEachText self.old (λ rules text. AreQuiet rules text (take result piece.now)) }
+        ensures blocks_stay { block_count self.new ≡ block_count self.old }
+    {
+        let most = self.wire.stretch().min(piece.len() as u64) as usize;
+        if most == 0 {
+            return 0;
+        }
+        let count = self.segment.listen(&piece[..most]);
+        self.wire.skip(count as u64);
+        count
     }
 
     /// Whether the stream may end here: Ok at a packet's border behind the hello, and else the fault that was met, or Cut

@@ -1,5 +1,5 @@
 // The present segment of a stream.
-ghost use Rattle.std.specs.Prelude.{◌≡◌, ◌≤◌, ◌<◌, ◌+◌, ◌^◌, ◌++◌, [], ◌∷◌, ◌==◌, ℕ, List, true, false, IsTrue, IfOk};
+ghost use Rattle.std.specs.Prelude.{◌≡◌, ◌≤◌, ◌<◌, ◌+◌, ◌^◌, ◌++◌, [], ◌∷◌, ◌==◌, ℕ, List, length, take, true, false, IsTrue, IfOk};
 ghost use Rattle.hk_base.specs.declared.plain.Form.{Form};
 ghost use Rattle.hk_spec_streams.specs.Blocks.{Setting};
 ghost use Rattle.hk_spec_streams.specs.Station.{sent_prints};
@@ -20,7 +20,7 @@ pub struct Segment {
 }
 
 impl Segment {
-    ghost use Rattle.hk_receiver.specs.Segment.{IsFor, HasBytes, Gains, ring_in, segment_number};
+    ghost use Rattle.hk_receiver.specs.Segment.{IsFor, HasBytes, Gains, prints_by, ring_in, segment_number};
 
     /// The first segment of a stream, without a byte. It takes all memory that it needs.
     pub fn new(alloc: Global, flips: u32, hop: u32) -> Result<Segment, NoMemory>
@@ -65,6 +65,19 @@ impl Segment {
             Some(print) => self.ring.push(print),
             None => false,
         }
+    }
+
+    /// Takes a front of these bytes of sound that completes no print, and answers how many bytes it has.
+    pub fn listen(&mut self, sound: &[u8]) -> usize
+        ensures within { result ≤ length sound.now }
+        ensures goes_on { (s : Setting) (form : Form) (bytes : List ℕ) → (form.channels == 0) ≡ false → HasBytes s form self.old bytes
+            → HasBytes s form self.new (bytes ++ take result sound.now) }
+        ensures no_print { (s : Setting) (form : Form) (bytes : List ℕ) (k : ℕ) → (form.channels == 0) ≡ false → HasBytes s form self.old bytes
+            → k ≤ result → prints_by s form (bytes ++ take k sound.now) ≡ prints_by s form bytes }
+        ensures same_number { segment_number self.new ≡ segment_number self.old }
+        ensures same_ring { ring_in self.new ≡ ring_in self.old }
+    {
+        self.front.listen(sound)
     }
 
     /// Takes a print that was sent, and tells whether it completes a block.

@@ -1,2 +1,3 @@
 mod Bodies
 pub mod Reading
+mod Stretching

@@ -1,5 +1,5 @@
 -- What a reader's part says of the open record's bytes, and what one more byte is.
-use Rattle.std.specs.Prelude.{◌≡◌, ℕ, ◌+◌, ◌<◌, ◌==◌, not, ◌&&◌, ◌||◌, nat_lt, if◌then◌else◌, List, [], ◌∷◌, ◌++◌, length, slice_index, slice_get, Bool, ⊤}
+use Rattle.std.specs.Prelude.{◌≡◌, ℕ, ◌+◌, ◌-◌, ◌<◌, ◌==◌, not, ◌&&◌, ◌||◌, nat_lt, if◌then◌else◌, List, [], ◌∷◌, ◌++◌, length, slice_index, slice_get, Bool, ⊤}
 use Rattle.std.specs.Int.{w16, from_be_bytes}
 use Rattle.std.specs.Option.{option_map_or}
 use Rattle.hk_spec_streams.specs.Records.{STATION, OPERATOR, Arrival, ForStation, ForOperator, arrival_after, record_size}
@@ -23,6 +23,15 @@ IsPart (parts.High owner) bytes = bytes ≡ head_bytes owner
 IsPart (parts.Low owner high) bytes = bytes ≡ head_bytes owner ++ high ∷ []
 IsPart (parts.Body owner left) bytes = (high : ℕ) × (low : ℕ) × (payload : List ℕ) × (bytes ≡ head_bytes owner ++ high ∷ low ∷ payload)
     × (length payload + left ≡ from_be_bytes w16 (high ∷ low ∷ [])) × (0 < left)
+
+-- how many bytes of an open record of a station come before its last one
+abbrev pub left_ahead : Part → ℕ
+left_ahead (parts.Body (owners.Station number) left) = left - 1
+left_ahead (parts.Body owners.Operator left) = 0
+left_ahead parts.Letter = 0
+left_ahead parts.Number = 0
+left_ahead (parts.High owner) = 0
+left_ahead (parts.Low owner high) = 0
 
 -- the owner is the operator, or one of so many stations
 abbrev pub IsOneOf : ℕ → Owner → Type 0

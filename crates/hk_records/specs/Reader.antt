@@ -1,10 +1,10 @@
 -- What a reader has read, and what it tells of the last byte.
-use Rattle.std.specs.Prelude.{◌≡◌, ℕ, ◌+◌, ◌≤◌, List, [], length, Option, Some, None, Result, MatchResult, ⊤, slice_get}
+use Rattle.std.specs.Prelude.{◌≡◌, ℕ, ◌+◌, ◌-◌, ◌≤◌, min, List, [], length, Option, Some, None, Result, MatchResult, ⊤, slice_get}
 use Rattle.std.specs.Option.{option_map_or}
 use Rattle.hk_base.specs.declared.plain.Trouble.{Trouble}
 use Rattle.hk_spec_streams.specs.Pieces.{completed}
 use Rattle.hk_spec_streams.specs.Records.{arrivals, input_fault, input_met, input_wrong, open_bytes}
-use Rattle.hk_records.specs.Part.{IsPart, HasOwner, told}
+use Rattle.hk_records.specs.Part.{IsPart, HasOwner, left_ahead, told}
 use Rattle.hk_records.specs.declared.reader.RecordReader.{RecordReader}
 use Rattle.hk_records.specs.declared.reader.Came.{Came}
 use Rattle.hk_records.specs.declared.reader.Came.TheVariants.{Head, Station, Operator, Bad}
@@ -18,6 +18,10 @@ input_limit reader = reader.limit
 -- the fault that the reader has met
 abbrev pub trouble_met : RecordReader → Option Trouble
 trouble_met reader = reader.fault
+
+-- how many bytes of a station's stream come next, whatever they are
+abbrev pub bytes_ahead : RecordReader → ℕ
+bytes_ahead reader = min (left_ahead reader.part) (reader.limit - reader.taken)
 
 -- The reader has read this text, which has no fault: it knows how long it is, where the open record begins, how far that has come, and
 -- whose it is.

@@ -9,4 +9,7 @@ mod part;
 mod reader;
 
 pub use hk_base::Trouble;
-pub use reader::{Came, RecordReader};
+pub use reader::{Came, RecordReader, Stretch};
+
+#[cfg(test)]
+mod tests;

@@ -1,8 +1,9 @@
 // The reader of an input.
-ghost use Rattle.std.specs.Prelude.{◌≡◌, ◌∷◌, ◌++◌, [], ℕ, List, length, Some, Err};
+ghost use Rattle.std.specs.Prelude.{◌≡◌, ◌≤◌, ◌∷◌, ◌++◌, [], ℕ, List, length, map, IfSome, Some, None, Err};
 ghost use Rattle.hk_base.specs.declared.plain.Trouble.{Trouble};
+ghost use Rattle.hk_spec_streams.specs.Records.{ForStation, arrivals};
 
-use crate::part::{Part, after, arrival, is_faulty, record_begin};
+use crate::part::{Owner, Part, after, arrival, is_faulty, record_begin};
 use hk_base::Trouble;
 
 /// What a byte of an input is.
@@ -18,6 +19,15 @@ pub enum Came {
     Bad(Trouble),
 }
 
+/// Bytes of one station's stream that come next in an input, whatever they are.
+#[derive(Clone, Copy, Debug, PartialEq, Eq)]
+pub struct Stretch {
+    /// Whose bytes they are.
+    pub number: u8,
+    /// How many they are: all but the last one of the open record, and no more than the input may have.
+    pub len: u64,
+}
+
 /// Reads an input of records for so many stations, byte after byte, up to its first fault, which it keeps.
 #[derive(Drop)]
 pub struct RecordReader {
@@ -31,7 +41,7 @@ pub struct RecordReader {
 
 impl RecordReader {
     ghost use Rattle.hk_records.specs.Part.{IsFor};
-    ghost use Rattle.hk_records.specs.Reader.{HasRead, EndsWith, IsGood, came_at, trouble_met, input_limit, stations_of};
+    ghost use Rattle.hk_records.specs.Reader.{HasRead, EndsWith, IsGood, came_at, trouble_met, input_limit, stations_of, bytes_ahead};
 
     /// Nothing is read yet. An input of over `limit` bytes is too long.
     pub fn new(stations: u8, limit: u64) -> RecordReader
@@ -75,6 +85,45 @@ impl RecordReader {
         self.begun = begun;
         self.part = after(self.stations, part, byte);
         arrival(part, byte)
+    }
+
+    /// The bytes of a station's stream that come next, where a station's record is open. None elsewhere, and after a fault.
+    pub fn stretch(&self) -> Option<Stretch>
+        ensures len { IfSome result (λ stretch. stretch.len ≡ bytes_ahead self.now) }
+        ensures arrive { IfSome result (λ stretch. (text bytes : List ℕ) → HasRead self.now text → length bytes ≤ stretch.len
+            → arrivals (text ++ bytes) ≡ arrivals text ++ map (ForStation stretch.number) bytes) }
+        ensures none { result ≡ None → trouble_met self.now ≡ None → bytes_ahead self.now ≡ 0 }
+        ensures fault { (trouble : Trouble) → trouble_met self.now ≡ Some trouble → result ≡ None }
+    {
+        if self.fault.is_some() {
+            return None;
+        }
+        let Part::Body(owner, left) = self.part else {
+            return None;
+        };
+        let Owner::Station(number) = owner else {
+            return None;
+        };
+        let inside = u64::from(left.saturating_sub(1));
+        let room = self.limit.saturating_sub(self.taken);
+        Some(Stretch {
+            number,
+            len: inside.min(room),
+        })
+    }
+
+    /// Reads so many bytes of the stretch at once, whatever they are.
+    pub fn skip(&mut self, count: u64)
+        requires { count ≤ bytes_ahead self.old }
+        ensures reads { (text bytes : List ℕ) → HasRead self.old text → length bytes ≡ count → HasRead self.new (text ++ bytes) }
+        ensures stations { stations_of self.new ≡ stations_of self.old }
+        ensures limit { input_limit self.new ≡ input_limit self.old }
+        ensures fault_stays { trouble_met self.new ≡ trouble_met self.old }
+    {
+        if let Part::Body(owner, left) = self.part {
+            self.taken += count;
+            self.part = Part::Body(owner, left - count as u16);
+        }
     }
 
     // Keeps the input's first fault.

@@ -10,3 +10,4 @@ pub mod Taking
 pub mod Finishing
 pub mod Ending
 pub mod Opens
+mod Listening

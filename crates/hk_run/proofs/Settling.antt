@@ -16,7 +16,7 @@ use Rattle.hk_spec_settings.specs.Settings.{Rules}
 use Rattle.hk_spec_runs.specs.Replay.{Scene, OperatorStream, arrived, obeyed}
 use Rattle.hk_operator.specs.Obeying.{stream_after, new_commands}
 use Rattle.hk_operator.proofs.Joining.{for_operator_is}
-use Rattle.hk_run.specs.Course.{scene_after}
+use Rattle.hk_run.specs.Course.{scene_after, heard_by}
 use Rattle.hk_run.specs.Holding.{with_stream}
 use Rattle.hk_run.specs.Playing.{Agree, IsSettled}
 use Rattle.hk_run.proofs.Hearing.{same_stream}
@@ -26,6 +26,16 @@ use Rattle.hk_run.proofs.Obeying.{counts}
 pub none_settled : (rules : Rules) → IsSettled rules [] []
 unfolding arrivals pieces_within
 none_settled rules = record { none_ahead = λ m ahead. refl; same = λ others agree. refl }
+
+-- bytes of a station's stream touch neither the operator nor the list of refused commands
+same_streams : (rules : Rules) (refused : List ℕ) (k : ℕ) (bytes : List ℕ) (scene : Scene) → (heard_by rules refused scene k bytes).operator_stream ≡ scene.operator_stream
+same_streams rules refused k [] scene = refl
+same_streams rules refused k (b ∷ bytes) scene =
+    same_streams rules refused k bytes (arrived rules refused scene (ForStation k b)) ∙ same_stream rules scene k b (slice_get scene.listeners k)
+
+by_any : (rules : Rules) (some others : List ℕ) (k : ℕ) (bytes : List ℕ) (scene : Scene) → heard_by rules some scene k bytes ≡ heard_by rules others scene k bytes
+by_any rules some others k [] scene = refl
+by_any rules some others k (b ∷ bytes) scene = by_any rules some others k bytes (arrived rules some scene (ForStation k b))
 
 -- the number of commands so far
 abbrev pub so_far : Scene → ℕ
@@ -53,6 +63,18 @@ module _ (rules : Rules) (refused text : List ℕ) (settled : IsSettled rules re
       let operator_stream : next.operator_stream ≡ (scene_after rules refused text).operator_stream = same_stream rules (scene_after rules refused text) k c (slice_get (scene_after rules refused text).listeners k) in
       settles longer next refused
       (λ others agree. is others ∙ ap (λ (s : Scene). arrived rules refused s (ForStation k c))
+      (settled.same others (subst (λ (operator_stream : OperatorStream). Agree (length (commands operator_stream.used)) others refused) operator_stream agree)))
+      (subst (λ (operator_stream : OperatorStream). (m : ℕ) → length (commands operator_stream.used) < m → is_one_of refused m ≡ false) (sym operator_stream) settled.none_ahead)
+
+  -- bytes of a station's stream
+  pub stretch_settled : (longer : List ℕ) (k : ℕ) (bytes : List ℕ) → ((r : List ℕ) → scene_after rules r longer ≡ heard_by rules r (scene_after rules r text) k bytes)
+      → IsSettled rules refused longer
+  stretch_settled longer k bytes is =
+      let next : Scene = heard_by rules refused (scene_after rules refused text) k bytes in
+      let operator_stream : next.operator_stream ≡ (scene_after rules refused text).operator_stream = same_streams rules refused k bytes (scene_after rules refused text) in
+      settles longer next refused
+      (λ others agree. is others ∙ by_any rules others refused k bytes (scene_after rules others text)
+      ∙ ap (λ (s : Scene). heard_by rules refused s k bytes)
       (settled.same others (subst (λ (operator_stream : OperatorStream). Agree (length (commands operator_stream.used)) others refused) operator_stream agree)))
       (subst (λ (operator_stream : OperatorStream). (m : ℕ) → length (commands operator_stream.used) < m → is_one_of refused m ≡ false) (sym operator_stream) settled.none_ahead)
 

@@ -1,5 +1,5 @@
 -- What a replay makes of an input, byte after byte.
-use Rattle.std.specs.Prelude.{ℕ, Bool, true, false, ◌&&◌, List, fold, flat_map, length, is_none}
+use Rattle.std.specs.Prelude.{ℕ, Bool, true, false, ◌&&◌, List, fold, map, flat_map, length, is_none}
 use Rattle.std.specs.List.{enumerate_from, list_all}
 use Rattle.hk_base.specs.declared.plain.End.{End}
 use Rattle.hk_base.specs.declared.plain.End.TheVariants as ends
@@ -7,7 +7,7 @@ use Rattle.hk_base.specs.declared.plain.OpEnd.{OpEnd}
 use Rattle.hk_base.specs.declared.plain.OpEnd.TheVariants as op_ends
 use Rattle.hk_spec_streams.specs.Blocks.{blocks}
 use Rattle.hk_spec_streams.specs.Station.{station_wrong}
-use Rattle.hk_spec_streams.specs.Records.{arrivals}
+use Rattle.hk_spec_streams.specs.Records.{ForStation, arrivals}
 use Rattle.hk_spec_lines.specs.Lines.{printed_text, station_line}
 use Rattle.hk_spec_settings.specs.Settings.{Rules}
 use Rattle.hk_spec_runs.specs.Replay.{Listener, Scene, opening, arrived, end_of}
@@ -19,6 +19,10 @@ use Rattle.hk_station.specs.declared.station.Progress.TheVariants.{Going, Over}
 -- the scene after all bytes of an input without a fault
 abbrev pub scene_after : Rules → List ℕ → List ℕ → Scene
 scene_after rules refused text = fold (arrived rules refused) (opening rules) (arrivals text)
+
+-- a scene with these bytes of a station's stream more
+abbrev pub heard_by : Rules → List ℕ → Scene → ℕ → List ℕ → Scene
+heard_by rules refused scene number bytes = fold (arrived rules refused) scene (map (ForStation number) bytes)
 
 -- what is printed for these bytes
 abbrev pub printed_for : Rules → List ℕ → List ℕ → List ℕ

@@ -1,5 +1,5 @@
 // A run: stations and operator over one catalogue.
-ghost use Rattle.std.specs.Prelude.{◌≡◌, ◌≤◌, ◌<◌, ◌+◌, ◌⊎◌, ◌∷◌, [], None, ℕ, List, IfOk, IfSome, length};
+ghost use Rattle.std.specs.Prelude.{◌≡◌, ◌≤◌, ◌<◌, ◌+◌, ◌⊎◌, ◌∷◌, [], None, ℕ, List, IfOk, IfSome, length, take};
 ghost use Rattle.hk_base.specs.Devices.{Counts};
 ghost use Rattle.hk_spec_streams.specs.Operator.{Command, Publish, commands};
 ghost use Rattle.hk_spec_streams.specs.Records.{ForStation};
@@ -7,7 +7,7 @@ ghost use Rattle.hk_spec_runs.specs.OperatorState.{IsReply, after};
 ghost use Rattle.hk_spec_runs.specs.Replay.{arrived};
 ghost use Rattle.hk_operator.specs.Obeying.{stream_after, new_commands};
 ghost use Rattle.hk_words.specs.Orders.{rules_meant, RulesFit};
-ghost use Rattle.hk_run.specs.Course.{operator_ended, taken_of};
+ghost use Rattle.hk_run.specs.Course.{heard_by, operator_ended, taken_of};
 
 use crate::opening::open_stations;
 use crate::summary::write_stations;
@@ -104,6 +104,25 @@ impl Run {
         taken_of(station.hear(byte, &mut self.catalogue, &mut self.scratch, out, steps))
     }
 
+    // A piece of a station's stream: the station takes a front of it that completes nothing, and none once it is over.
+    fn attend(&mut self, number: u8, piece: &[u8]) -> usize
+        ensures within { result ≤ length piece.now }
+        ensures holds { ForHeld self.old (λ rules scene. (refused : List ℕ) → Holds rules self.new (heard_by rules refused scene number (take result piece.now))) }
+        ensures prints_nothing { ForHeld self.old (λ rules scene. (refused : List ℕ) →
+            (heard_by rules refused scene number (take result piece.now)).printed ≡ scene.printed) }
+        ensures reader_stays { self.new.reader ≡ self.old.reader }
+        ensures rules_stay { self.new.rules ≡ self.old.rules }
+    {
+        if number as usize >= self.stations.len() {
+            return 0;
+        }
+        if self.stations[number as usize].end().is_some() {
+            return 0;
+        }
+        let station = &mut self.stations[number as usize];
+        station.listen(piece)
+    }
+
     // A byte of the operator's stream: the reply to the command that it ends.
     fn obey(&mut self, byte: u8) -> Option<Reply>
         ensures quiet { result ≡ None → ForHeld self.old (λ rules scene. (new_commands rules scene.operator_stream byte ≡ [])
@@ -151,9 +170,15 @@ impl Player for Run {
 
     ghost fault = { λ run. trouble_met run.reader };
 
-    // Each byte of a record goes by itself.
-    fn listen(&mut self, _piece: &[u8]) -> usize {
-        0
+    // Within a record a station takes its sound in pieces; each other byte goes by itself.
+    fn listen(&mut self, piece: &[u8]) -> usize {
+        let Some(stretch) = self.reader.stretch() else {
+            return 0;
+        };
+        let most = stretch.len.min(piece.len() as u64) as usize;
+        let count = self.attend(stretch.number, &piece[..most]);
+        self.reader.skip(count as u64);
+        count
     }
 
     fn take<K: Sink, L: Ledger>(&mut self, byte: u8, out: &mut K, steps: &mut Steps<L>) -> Taken {

@@ -3,3 +3,4 @@ pub mod Hearing
 pub mod Outcomes
 pub mod UsedBytes
 pub mod SinceStart
+pub mod Listening

@@ -1,5 +1,5 @@
 // A station: its receiver, its count of lines, the version of its last look, and its end.
-ghost use Rattle.std.specs.Prelude.{◌≡◌, ◌≤◌, ◌<◌, ◌+◌, [], ◌∷◌, ◌++◌, ℕ, List, Some, None, IfOk, IsTrue, length, nat_lt, if◌then◌else◌};
+ghost use Rattle.std.specs.Prelude.{◌≡◌, ◌≤◌, ◌<◌, ◌+◌, [], ◌∷◌, ◌++◌, ℕ, List, Some, None, IfOk, IsTrue, length, take, nat_lt, if◌then◌else◌};
 ghost use Rattle.hk_base.specs.Writing.{Writes};
 ghost use Rattle.hk_base.specs.declared.plain.End.{End};
 ghost use Rattle.hk_base.specs.declared.plain.End.TheVariants as ends;
@@ -12,6 +12,7 @@ ghost use Rattle.hk_block.specs.Ring.{is_full};
 ghost use Rattle.hk_block.specs.Looker.{Looks, matches_in, most_steps};
 ghost use Rattle.hk_receiver.specs.Kept.{MOST_BYTES, IsSetTo};
 ghost use Rattle.hk_receiver.specs.Received.{block_count, ring_of};
+ghost use Rattle.hk_receiver.specs.Quiet.{AreQuiet};
 
 use hk_base::{End, Head, NoMemory, Sink, Steps};
 use hk_block::{Looker, Scratch};
@@ -105,6 +106,24 @@ impl Station {
         }
     }
 
+    /// Hears a front of the piece that is sound and completes nothing, and answers how many bytes it has: none once the
+    /// station is over.
+    pub fn listen(&mut self, piece: &[u8]) -> usize
+        ensures within { result ≤ length piece.now }
+        ensures hears { ForEach self.old (λ rules l. IsHearing rules self.new (record l { used = l.used ++ take result piece.now })) }
+        ensures quiet { ForEach self.old (λ rules l. AreQuiet rules l.used (take result piece.now)) }
+        ensures over { (end : End) → kept_end self.old ≡ Some end → (result ≡ 0) × (self.new ≡ self.old) }
+        ensures end_stays { kept_end self.new ≡ kept_end self.old }
+        ensures number_stays { station_number self.new ≡ station_number self.old }
+        ensures lines_stay { lines_written self.new ≡ lines_written self.old }
+        ensures version_stays { version_of self.new ≡ version_of self.old }
+    {
+        if self.end.is_some() {
+            return 0;
+        }
+        self.receiver.listen(piece)
+    }
+
     /// Hears a piece of the stream, byte after byte, up to the one that ends the station; the rest of the piece is left. A
     /// failed write leaves the lines before whole, and then a proper front of its line. Once the station is over, it answers
     /// its end and changes nothing.
@@ -131,9 +150,14 @@ impl Station {
         if let Some(kept) = self.end {
             return Progress::Over(kept);
         }
-        for byte in piece {
-            match self.hear(*byte, view, scratch, log, steps) {
-                Progress::Going => {}
+        let mut at = 0;
+        for _turn in 0..piece.len() {
+            at += self.listen(&piece[at..]);
+            if at == piece.len() {
+                return Progress::Going;
+            }
+            match self.hear(piece[at], view, scratch, log, steps) {
+                Progress::Going => at += 1,
                 Progress::Over(end) => return Progress::Over(end),
             }
         }

@@ -33,7 +33,7 @@ use Rattle.hk_station_wire.proofs.MeetsFault.{met_packet, bad_print, sends_nothi
 use Rattle.hk_station_wire.proofs.Parts.{Says, says}
 use Rattle.hk_station_wire.proofs.LastItems.{carries_as_before, quiet_unfinished, other_item, gap_begin_item, gap_end_item, fence_item, sound_item, prints_item, same_channels, same_factor}
 
-none_passes : (prints : List Print) → list_any (λ print. false && nat_lt 10 (count_ones print.mask)) prints ≡ false
+pub none_passes : (prints : List Print) → list_any (λ print. false && nat_lt 10 (count_ones print.mask)) prints ≡ false
 none_passes [] = refl
 none_passes (print ∷ prints) = none_passes prints
 

@@ -9,3 +9,4 @@ pub mod Behind
 pub mod WellFormed
 pub mod OpenGap
 pub mod ItemLaws
+pub mod Sounding

@@ -3,3 +3,4 @@ pub mod Items
 pub mod Says
 pub mod Steps
 pub mod Taken
+pub mod Sounding

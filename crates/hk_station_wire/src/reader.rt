@@ -1,6 +1,6 @@
 // What a station's bytes bring, as long as no fault is met.
-ghost use Rattle.std.specs.Prelude.{◌≡◌, ◌≤◌, ◌<◌, ◌+◌, ◌-◌, ◌^◌, ◌++◌, ℕ, List, [], ◌∷◌, length, take, false, IfOk, IsTrue};
-ghost use Rattle.hk_spec_streams.specs.Station.{station_grammar, station_length_fits, factors_for};
+ghost use Rattle.std.specs.Prelude.{◌≡◌, ◌≤◌, ◌<◌, ◌+◌, ◌-◌, ◌^◌, ◌++◌, ℕ, List, [], ◌∷◌, length, take, false, None, IfOk, IsTrue};
+ghost use Rattle.hk_spec_streams.specs.Station.{station_grammar, station_fault, station_length_fits, factors_for};
 ghost use Rattle.hk_spec_streams.specs.Pieces.{is_one_of};
 ghost use Rattle.hk_spec_streams.specs.Grammar.{ends_at_start};
 ghost use Rattle.hk_wire.specs.Held.{gathered, length_size};
@@ -36,6 +36,7 @@ pub struct Reader {
 
 impl Reader {
     ghost use Rattle.hk_station_wire.specs.Taken.{StandsAfter, TellsItem, HasByte, packet_count};
+    ghost use Rattle.hk_station_wire.specs.Sounding.{SoundAhead};
     ghost use Rattle.hk_station_wire.specs.Items.{is_fault, HasForm};
 
     pub fn new() -> Reader
@@ -68,6 +69,28 @@ impl Reader {
             self.packet.push(byte);
             self.take_packet(place, byte)
         }
+    }
+
+    /// How many bytes of sound come next whatever they are: those that their packet lacks, once its first twelve have come.
+    pub fn sound_ahead(&self) -> u64
+        ensures { (limit count : ℕ) (text : List ℕ) → StandsAfter self.now text → station_fault limit text ≡ None
+            → 0 < count → count ≤ result → length text + count ≤ limit → SoundAhead limit text count }
+    {
+        if self.form.channels == 0 || self.packet.kind() != DATA || self.packet.count() < 12 {
+            return 0;
+        }
+        let size = HEAD_SIZE + u64::from(self.packet.length());
+        size.saturating_sub(self.packet.count())
+    }
+
+    /// Takes so many bytes of sound at once.
+    pub fn skip(&mut self, count: u64)
+        requires { packet_count self.old + count < 2 ^ 64 }
+        ensures stands { (limit : ℕ) (text bytes : List ℕ) → StandsAfter self.old text → SoundAhead limit text (length bytes)
+            → length bytes ≡ count → StandsAfter self.new (text ++ bytes) }
+        ensures within { packet_count self.new ≡ packet_count self.old + count }
+    {
+        self.packet.skip(count);
     }
 
     /// Whether a packet may begin at this place.

@@ -111,3 +111,39 @@ fn a_stream_cut_at_each_place(rt: HostRuntime) {
         assert_eq!(rt; ending(&stream[..count]), expected, "{count}");
     }
 }
+
+#[test]
+fn pieces_and_single_bytes_of_sound_are_taken_the_same(rt: HostRuntime) {
+    let stream = b"HKS1\x02\x08\x01\0\x10abcdefghijklmnop\x03\0\0\x01\0\x01a";
+    let mut single = Wire::new(100);
+    let mut pieces = Wire::new(100);
+    let mut left: u64 = 0;
+    let mut skipped = 0u64;
+    for byte in stream {
+        let item = single.push(*byte);
+        if left > 0 {
+            left -= 1;
+            assert_eq!(rt; item, Item::Byte(*byte));
+        } else {
+            assert_eq!(rt; pieces.push(*byte), item);
+            left = pieces.stretch();
+            if left > 0 {
+                pieces.skip(left);
+                skipped = skipped.wrapping_add(left);
+            }
+        }
+    }
+    // All of the packet's sixteen bytes but the nine that come with its first twelve.
+    assert_eq!(rt; skipped, 7);
+    assert_eq!(rt; pieces.taken(), single.taken());
+    assert_eq!(rt; pieces.finish(), single.finish());
+}
+
+#[test]
+fn a_stretch_ends_at_the_limit(rt: HostRuntime) {
+    let mut wire = Wire::new(20);
+    for byte in b"HKS1\x01\x01\x01\0\x10abcdefghi" {
+        wire.push(*byte);
+    }
+    assert_eq!(rt; wire.stretch(), 2);
+}

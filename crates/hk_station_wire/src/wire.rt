@@ -1,5 +1,5 @@
 // The wire of a station's stream.
-ghost use Rattle.std.specs.Prelude.{◌≡◌, ◌≤◌, ◌+◌, ◌++◌, if◌then◌else◌, ℕ, List, [], ◌∷◌, length, Some, None};
+ghost use Rattle.std.specs.Prelude.{◌≡◌, ◌≤◌, ◌<◌, ◌+◌, ◌++◌, if◌then◌else◌, ℕ, List, [], ◌∷◌, length, Some, None};
 ghost use Rattle.std.specs.Result.{result_err};
 ghost use Rattle.hk_base.specs.declared.plain.WireFault.{WireFault};
 ghost use Rattle.hk_spec_streams.specs.Station.{station_wrong, station_seen};
@@ -22,6 +22,7 @@ pub struct Wire {
 impl Wire {
     ghost use Rattle.hk_station_wire.specs.Taken.{HasTaken, limit_of, count_taken, fault_met};
     ghost use Rattle.hk_station_wire.specs.Items.{item_at, is_fault, HasForm};
+    ghost use Rattle.hk_station_wire.specs.Sounding.{AreSound, SoundAhead};
 
     /// A wire that has taken nothing, and takes at most `limit` bytes.
     pub fn new(limit: u64) -> Wire
@@ -61,6 +62,30 @@ impl Wire {
                 Item::Fault(fault)
             }
         }
+    }
+
+    /// How many bytes of sound come next whatever they are: within their packet, of which twelve have come, and within the
+    /// limit. None after a fault.
+    pub fn stretch(&self) -> u64
+        ensures room { count_taken self.now + result ≤ limit_of self.now }
+        ensures going { 0 < result → fault_met self.now ≡ None }
+        ensures sound { (text bytes : List ℕ) → HasTaken self.now text → length bytes ≤ result → AreSound (limit_of self.now) text bytes }
+        ensures ahead { (count : ℕ) (text : List ℕ) → HasTaken self.now text → 0 < count → count ≤ result → SoundAhead (limit_of self.now) text count }
+    {
+        self.reader.sound_ahead().min(self.passage.room())
+    }
+
+    /// Takes so many bytes of sound at once, whatever they are.
+    pub fn skip(&mut self, count: u64)
+        requires going { fault_met self.old ≡ None }
+        requires room { count_taken self.old + count ≤ limit_of self.old }
+        ensures taken { (text bytes : List ℕ) → HasTaken self.old text → SoundAhead (limit_of self.old) text (length bytes)
+            → length bytes ≡ count → HasTaken self.new (text ++ bytes) }
+        ensures limit_stays { limit_of self.new ≡ limit_of self.old }
+        ensures counts { count_taken self.new ≡ count_taken self.old + count }
+    {
+        self.passage.advance_by(count);
+        self.reader.skip(count);
     }
 
     /// Whether the stream may end here: Ok at a packet's border behind the hello, and else the fault that was met, or

@@ -38,6 +38,18 @@ module _ (met : Met) (passage : Passage) (text : List ℕ) (b : ℕ) (kept : Kee
         taken_is = (omega (arith, before, long, all, more)) ∙ sym (ap (λ limit. length (seen_of (met limit) (text ++ b ∷ []))) same_limit);
       }
 
+  -- further bytes meet nothing
+  pub keeps_many : (new : Passage) (more : List ℕ) → passage.fault ≡ None → fault_of (met passage.limit) (text ++ more) ≡ None
+      → new.limit ≡ passage.limit → new.taken ≡ passage.taken + length more → new.fault ≡ passage.fault → Keeps met new (text ++ more)
+  keeps_many new more no_fault none same_limit counts same_fault =
+      let all : length (seen_of (met passage.limit) (text ++ more)) ≡ length (text ++ more) = ap length (seen_of-all (met passage.limit) (text ++ more) none) in
+      let before : passage.taken ≡ length text = keeps_all no_fault in
+      let long : length (text ++ more) ≡ length text + length more = length-append text more in
+      record {
+        fault_is = same_fault ∙ no_fault ∙ sym none ∙ sym (ap (λ limit. fault_of (met limit) (text ++ more)) same_limit);
+        taken_is = (omega (arith, before, long, all, counts)) ∙ sym (ap (λ limit. length (seen_of (met limit) (text ++ more))) same_limit);
+      }
+
   -- the byte meets a fault
   pub keeps_some : (new : Passage) (fault : WireFault) → passage.fault ≡ None → met passage.limit (text ++ b ∷ []) ≡ Some fault
       → new.limit ≡ passage.limit → new.taken ≡ passage.taken → new.fault ≡ Some fault → Keeps met new (text ++ b ∷ [])

@@ -14,3 +14,6 @@ pub use gathered::Gathered;
 pub use hk_base::WireFault;
 pub use packet::{LastPacket, LengthSize};
 pub use passage::Passage;
+
+#[cfg(test)]
+mod tests;

@@ -52,6 +52,16 @@ impl LastPacket {
         self.count += 1;
     }
 
+    /// Takes so many bytes at once that go to the last packet, of which the first twelve have come.
+    pub fn skip(&mut self, count: u64)
+        requires { count_of self.old + count < 2 ^ 64 }
+        ensures next { (bytes more : List ℕ) → IsLast self.old bytes → 12 ≤ length bytes → length more ≡ count → IsLast self.new (bytes ++ more) }
+        ensures size { length_size self.new ≡ length_size self.old }
+        ensures count { count_of self.new ≡ count_of self.old + count }
+    {
+        self.count += count;
+    }
+
     /// Whether the next byte begins a packet.
     pub fn is_over(&self) -> bool
         ensures { (bytes : List ℕ) → IsLast self.now bytes → result ≡ is_over (length_size self.now) bytes }

@@ -1,5 +1,5 @@
 // How far a stream has come, and what ended it.
-ghost use Rattle.std.specs.Prelude.{◌≡◌, ◌≤◌, ◌<◌, ◌+◌, ◌-◌, ◌^◌, ◌++◌, ℕ, List, [], ◌∷◌, length, IfOk, OnOk, OnErr, Some, None, if◌then◌else◌};
+ghost use Rattle.std.specs.Prelude.{◌≡◌, ◌≤◌, ◌<◌, ◌+◌, ◌-◌, ◌^◌, ◌++◌, ℕ, List, [], ◌∷◌, length, IfOk, OnOk, OnErr, Some, None, is_some, if◌then◌else◌};
 ghost use Rattle.std.specs.Option.{option_or};
 ghost use Rattle.std.specs.Result.{result_err};
 ghost use Rattle.hk_base.specs.declared.plain.WireFault.{WireFault};
@@ -69,6 +69,30 @@ impl Passage {
         ensures limit_stays { passage_limit self.new ≡ passage_limit self.old }
     {
         self.taken += 1;
+    }
+
+    /// So many bytes were taken, none of which meets a fault.
+    pub fn advance_by(&mut self, count: u64)
+        requires { bytes_taken self.old + count ≤ passage_limit self.old }
+        ensures keeps { (met : Met) (text more : List ℕ) → fault_kept self.old ≡ None → Keeps met self.old text → length more ≡ count
+            → fault_of (met (passage_limit self.old)) (text ++ more) ≡ None → Keeps met self.new (text ++ more) }
+        ensures taken { bytes_taken self.new ≡ bytes_taken self.old + count }
+        ensures fits { bytes_taken self.new < 2 ^ 64 }
+        ensures same_fault { fault_kept self.new ≡ fault_kept self.old }
+        ensures limit_stays { passage_limit self.new ≡ passage_limit self.old }
+    {
+        self.taken += count;
+    }
+
+    /// How many bytes may be taken still: none after a fault.
+    pub fn room(&self) -> u64
+        ensures { result ≡ (if is_some (fault_kept self.now) then 0 else passage_limit self.now - bytes_taken self.now) }
+    {
+        if self.fault.is_some() {
+            0
+        } else {
+            self.limit - self.taken
+        }
     }
 
     /// The next byte met a fault.
