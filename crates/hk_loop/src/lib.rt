@@ -8,6 +8,8 @@
 
 mod seat;
 mod serving;
+#[cfg(test)]
+mod tests;
 mod turning;
 
 pub use seat::Seat;

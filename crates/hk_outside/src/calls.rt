@@ -10,7 +10,7 @@ use hk_base::NoMemory;
 use std::alloc::Global;
 
 // How many calls can ask for something new.
-const MOST_ASKS: usize = 513;
+const CALL_LIMIT: usize = 513;
 
 /// Calls in order, with room for all that can ask for something new.
 #[derive(Drop)]
@@ -33,7 +33,7 @@ impl Calls {
     pub fn new(alloc: Global) -> Result<Calls, NoMemory>
         ensures { IfOk result (λ calls. calls.made.items ≡ []) }
     {
-        match Vec::with_capacity(alloc, MOST_ASKS) {
+        match Vec::with_capacity(alloc, CALL_LIMIT) {
             Ok(made) => Ok(Calls {
                 made,
                 asked: 0,

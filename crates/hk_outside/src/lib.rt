@@ -14,6 +14,8 @@ mod memory_door;
 mod memory_gate;
 mod memory_link;
 mod place;
+#[cfg(test)]
+mod tests;
 
 pub use calls::Calls;
 pub use door::{Ask, Call, Door, DoorFault, Held, Plan, Start};

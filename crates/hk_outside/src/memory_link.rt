@@ -10,7 +10,7 @@ use hk_base::{Flag, Got, MemorySource, Source};
 use std::thread;
 
 // The number, from 1, of the read of a held link that fails.
-const LAST_WAIT: u64 = 10_000_000;
+const HOLD_LIMIT: u64 = 10_000_000;
 
 /// Bytes in memory as a link, that may be held by a flag. It tells what is left of them.
 #[derive(Drop)]
@@ -74,7 +74,7 @@ impl Link for MemoryLink {
         if is_held {
             thread::yield_now();
             self.waited = self.waited.saturating_add(1);
-            if self.waited != LAST_WAIT {
+            if self.waited != HOLD_LIMIT {
                 return LinkGot::NotYet;
             }
             self.faults = self.faults.saturating_add(1);

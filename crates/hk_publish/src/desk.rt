@@ -11,8 +11,9 @@ ghost use Rattle.hk_publish.specs.Sharing.{IsWhole};
 ghost use Rattle.hk_publish.specs.Holding.{after_publish, holding_at, shelf_of, IsPublishAnswer, IsKept, IsAuthor};
 ghost use Rattle.std.specs.List.{All};
 
+use crate::Note;
+use crate::edition::{Edition, Operation};
 use crate::sharing::{Publish, Sharing, View};
-use crate::{Edition, Note, Operation};
 use hk_catalogue::{Edit, Refused, Roll, Shelf, StageFault};
 use hk_journal::{Author, Batching, Reached};
 use left_right::writer;

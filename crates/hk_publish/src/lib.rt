@@ -17,8 +17,6 @@ mod tests;
 mod visitor;
 
 pub use desk::Desk;
-pub use edition::{Edition, Operation};
 pub use note::Note;
 pub use reading::Reading;
-pub use sharing::{Sharing, View};
 pub use starting::start;

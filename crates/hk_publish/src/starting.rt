@@ -10,9 +10,10 @@ ghost use Rattle.hk_publish.specs.Known.{new_known, home_of};
 ghost use Rattle.hk_publish.specs.Holding.{new_holding};
 
 use crate::desk::Writer;
+use crate::edition::Edition;
 use crate::sharing::Meet;
 use crate::visitor::Visitor;
-use crate::{Desk, Edition, Reading};
+use crate::{Desk, Reading};
 use hk_base::NoMemory;
 use hk_catalogue::Roll;
 use hk_journal::Author;

@@ -8,8 +8,8 @@ ghost use Rattle.hk_publish.specs.Views.{new_view};
 ghost use Rattle.hk_publish.specs.Sharing.{Keeps, origin_of, with_origin};
 ghost use Rattle.hk_publish.specs.Known.{IsLook, CatchesUp, new_known, home_of};
 
-use crate::Edition;
 use crate::desk::Writer;
+use crate::edition::Edition;
 use crate::sharing::{Catch, Enter, Greet, Sharing, Tell, View};
 use crossbeam_utils::rule::Outcome;
 use hk_catalogue::Catalogue;
