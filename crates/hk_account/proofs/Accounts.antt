@@ -38,24 +38,24 @@ one_fence text b = subst (λ fs. length fs ≤ 1) (sym (fences_completed text b)
     few : (place : ℕ) (packet : List ℕ) → length (fence_in place packet) ≤ 1
     few place packet = at_most _ _
 
-no_moments : (s : Setting) → moments s [] ≡ []
+pub no_moments : (s : Setting) → moments s [] ≡ []
 unfolding moments
 no_moments s = refl
 
 -- the reports of blocks at versions, one for each
 module _ (past : ℕ → Option Songs) where
-  length-reported : (bs : List Block) (vs : List ℕ) → length vs ≡ length bs → length (reported_of past bs vs) ≡ length bs
+  pub length-reported : (bs : List Block) (vs : List ℕ) → length vs ≡ length bs → length (reported_of past bs vs) ≡ length bs
   length-reported [] vs same = refl
   length-reported (b ∷ bs) [] same = absurd (omega (arith, same))
   length-reported (b ∷ bs) (v ∷ vs) same = ap suc (length-reported bs vs (omega (arith, same)))
 
-  versions-reported : (bs : List Block) (vs : List ℕ) → length vs ≡ length bs → versions_of (reported_of past bs vs) ≡ vs
+  pub versions-reported : (bs : List Block) (vs : List ℕ) → length vs ≡ length bs → versions_of (reported_of past bs vs) ≡ vs
   versions-reported [] [] same = refl
   versions-reported [] (v ∷ vs) same = absurd (omega (arith, same))
   versions-reported (b ∷ bs) [] same = absurd (omega (arith, same))
   versions-reported (b ∷ bs) (v ∷ vs) same = ap (λ ws. v ∷ ws) (versions-reported bs vs (omega (arith, same)))
 
-  lists-reported : (bs : List Block) (vs : List ℕ) (n : ℕ) (block : Block) (r : Reported) → slice_get bs n ≡ Some block → slice_get (reported_of past bs vs) n ≡ Some r
+  pub lists-reported : (bs : List Block) (vs : List ℕ) (n : ℕ) (block : Block) (r : Reported) → slice_get bs n ≡ Some block → slice_get (reported_of past bs vs) n ≡ Some r
       → r.list ≡ matches (query_of block) (songs_in past r.version)
   lists-reported [] vs n block r at_block at_line = past_end block (r.list ≡ matches (query_of block) (songs_in past r.version)) at_block
   lists-reported (b ∷ bs) [] n block r at_block at_line = past_end r (r.list ≡ matches (query_of block) (songs_in past r.version)) at_line
@@ -66,7 +66,7 @@ module _ (past : ℕ → Option Songs) where
   lists-reported (b ∷ bs) (v ∷ vs) (suc n) block r at_block at_line = lists-reported bs vs n block r at_block at_line
 
 -- looks that don't fall end at the last one
-rise_last : (from to : ℕ) (looks : List ℕ) → Rise from looks to → Rise from looks (version_after from looks)
+pub rise_last : (from to : ℕ) (looks : List ℕ) → Rise from looks to → Rise from looks (version_after from looks)
 rise_last from to [] rise = omega arith
 rise_last from to (v ∷ looks) rise = (rise.0, rise_last v to looks rise.1)
 

@@ -1,0 +1,7 @@
+mod Songs
+mod Histories
+pub mod Gathering
+mod Picking
+mod Firsts
+mod Seats
+mod Workers

@@ -1,0 +1,4 @@
+mod Known
+pub mod Seats
+pub mod Rows
+pub mod Elsewhere
