@@ -1,0 +1,3 @@
+pub mod Numerals
+pub mod Plans
+pub mod Reading
