@@ -18,6 +18,7 @@ from .streams import CLOSE, OPERATOR_HELLO, PUBLISH, add, audio, open_song, with
 WHAT = "add, withdraw and publish on hkmon, and show each reply"
 HELP = """Reads commands, a line each, from a file or standard input, sends them to hkmon, and prints each reply. It is
 the one operator of its hkmon: when it ends, no other can come. Leave it running as long as the catalogue may change.
+The first reply comes once all stations have connected.
 
   add ID FILE [TITLE [ARTIST]]    a recording by its sound: what ffmpeg reads, or .raw, .pcm, .wav
   words ID FILE [TITLE [ARTIST]]  a recording by its prints, as `hkreplay print` prints them
@@ -93,12 +94,13 @@ class Operator:
         return refused, {"seconds": None, "words": len(words), "silent": []}
 
     def close(self):
-        """Says that no more comes, and waits until hkmon has closed its side."""
+        """Says that no more comes. Each reply has been read, so hkmon finds the stream's end and no reset; it keeps its
+        side open until its run is over, and isn't waited for."""
         try:
             self.socket.shutdown(socket.SHUT_WR)
-            self.replies.read()
         except OSError:
             pass
+        self.replies.close()
         self.socket.close()
         self.keeper.close()
 

@@ -1,4 +1,4 @@
-"""The program hkreplay: where it is, and its SHA-256."""
+"""The programs: where they are, and the SHA-256 of hkreplay."""
 
 import hashlib
 import os
@@ -9,6 +9,12 @@ from .saying import Trouble, unreadable
 
 HERE = os.path.dirname(os.path.dirname(os.path.dirname(os.path.realpath(__file__))))
 BUILT = os.path.join(HERE, "crates", "hkreplay", "out", "hkreplay")
+BUILT_MONITOR = os.path.join(HERE, "crates", "hkmon", "out", "hkmon")
+
+
+def monitor_path():
+    """The hkmon that this repository built, or the one on the path; else None."""
+    return BUILT_MONITOR if os.path.exists(BUILT_MONITOR) else shutil.which("hkmon")
 
 
 def program_path(given=None):

@@ -15,7 +15,8 @@ from .streams import GAP, PIECE as PACKET, data, fence, station_hello
 WHAT = "send live or recorded sound to hkmon as a station"
 HELP = """Sends sound to hkmon: a URL or a file by ffmpeg, .raw, .pcm and fitting .wav files as they are, or with - raw
 sound from standard input. Each source is a station, and connects in the order given, since hkmon numbers stations by
-the order of their connections.
+the order of their connections. hkmon reads once all its stations and the operator have connected; until then what is
+sent waits.
 
 A live source (a URL, or with --live) that fails is opened again after growing pauses while the connection to hkmon
 stays, and a gap is sent for what was missed: a station's run doesn't end with its stream. With --keep all that was

@@ -51,7 +51,8 @@ class Case:
 
     Words are texts, or bytes where they aren't UTF-8. `input` is bytes, a Pipe, a Broken or an Input; `output` and
     `complaints` are standard output and standard error where these aren't plain files. `memory` is the most address
-    space that the program gets, in bytes. Where `unread` is true nothing of the input may have been taken.
+    space that the program gets, in bytes. Where `unread` is true nothing of the input may have been taken. `program` is
+    the one that is run.
     """
 
     name: str
@@ -64,6 +65,7 @@ class Case:
     complaints: object = None
     memory: int = None
     unread: bool = False
+    program: str = "hkreplay"
 
 
 def bad_usage(name, *words, **changes):

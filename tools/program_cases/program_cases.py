@@ -1,11 +1,11 @@
 #!/usr/bin/env python3
-"""Runs hkreplay on a table of whole runs: words, input, and the status, output and complaints that are wanted.
+"""Runs hkreplay and hkmon on a table of whole runs: words, input, and the status, output and complaints that are wanted.
 
-    tools/program_cases/program_cases.py [--program PATH] [--only WORD] [--list]
+    tools/program_cases/program_cases.py [--program PATH] [--monitor PATH] [--only WORD] [--list]
 
 The cases stand in the files cases_*.py beside this one. What they want was written by hand from the formats and the
 method, never taken from the program; the lines of `make` come from the model. It prints a line for each case that fails,
-and last 'N passed, M failed'. The status is 1 where anything failed, and where the program isn't built. It takes some
+and last 'N passed, M failed'. The status is 1 where anything failed, and where a program isn't built. It takes some
 seconds.
 """
 
@@ -24,6 +24,7 @@ import cases_devices
 import cases_examples
 import cases_faults
 import cases_make
+import cases_monitor
 import cases_replay
 import cases_sound
 import cases_words
@@ -31,8 +32,17 @@ from case import Broken, Input, Output, Pipe, Room
 
 ROOT = Path(__file__).resolve().parents[2]
 PROGRAM = ROOT / "crates/hkreplay/out/hkreplay"
-BUILD = "(cd crates/hkreplay && rt run -- replay < ../../examples/first.input)"
-TABLES = (cases_examples, cases_words, cases_replay, cases_faults, cases_sound, cases_make, cases_devices)
+MONITOR = ROOT / "crates/hkmon/out/hkmon"
+TABLES = (
+    cases_examples,
+    cases_words,
+    cases_replay,
+    cases_faults,
+    cases_sound,
+    cases_make,
+    cases_devices,
+    cases_monitor,
+)
 CASES = [case for table in TABLES for case in table.CASES]
 SECONDS = 20
 SHOWN = 60
@@ -150,6 +160,7 @@ def difference(found, wanted):
 def options_of(words):
     parser = argparse.ArgumentParser(description=__doc__, formatter_class=argparse.RawDescriptionHelpFormatter)
     parser.add_argument("--program", type=Path, default=PROGRAM, help="hkreplay (that of crates/hkreplay/out)")
+    parser.add_argument("--monitor", type=Path, default=MONITOR, help="hkmon (that of crates/hkmon/out)")
     parser.add_argument("--only", default="", metavar="WORD", help="the cases alone whose name has WORD in it")
     parser.add_argument("--list", action="store_true", help="print the names of the cases, and run none")
     return parser.parse_args(words)
@@ -161,13 +172,15 @@ def main():
     if options.list:
         print("\n".join(case.name for case in chosen))
         return 0
-    if not options.program.is_file():
-        print(f"program_cases: {options.program} isn't built; at the repository's top {BUILD} builds it")
-        return 1
+    programs = {"hkreplay": options.program, "hkmon": options.monitor}
+    for name in {case.program for case in chosen}:
+        if not programs[name].is_file():
+            print(f"program_cases: {programs[name]} isn't built; at the repository's top rt ci builds it")
+            return 1
     failed = 0
     for case in chosen:
         with tempfile.TemporaryDirectory(prefix="program_cases.") as folder:
-            faults = Run(options.program.resolve(), case, folder).faults()
+            faults = Run(programs[case.program].resolve(), case, folder).faults()
         if faults:
             failed += 1
             print(f"FAILED: {case.name}: {'; '.join(faults)}")

@@ -9,7 +9,7 @@ use Rattle.hk_outside.specs.declared.door.Ask.{Ask}
 use Rattle.hk_outside.specs.declared.door.Ask.TheVariants as asks
 use Rattle.hk_outside.specs.declared.door.Call.{Call}
 use Rattle.hk_spec_monitor.specs.Devices.{granted}
-use Rattle.hk_opening.specs.Handing.{AskedFor, refused}
+use Rattle.hk_opening.specs.Handing.{AskedFor, UpToRefused, refused}
 
 split_at : (a k n : ℕ) → k < n → (later : List ℕ) × (range_with_len a n ≡ range_with_len a k ++ (a + k) ∷ later)
 split_at a k zero lt = absurd (omega arith)
@@ -33,16 +33,17 @@ one_more f k calls now then_ before is =
 
 -- the next one was refused
 pub refused_next : (f : ℕ → Ask) (n k : ℕ) (calls now then_ : List Call) → k < n → now ≡ calls ++ granted (map f (range_with_len 0 k)) → then_ ≡ now ++ refused (f k)
-    → (given : List Ask) × (ask : Ask) × (later : List Ask) × (map f (range_with_len 0 n) ≡ given ++ ask ∷ later) × (then_ ≡ calls ++ (granted given ++ refused ask))
+    → UpToRefused (map f (range_with_len 0 n)) calls then_
 refused_next f n k calls now then_ lt before is =
     let h = split_at 0 k n lt in
-    let e : 0 + k ≡ k = omega arith in (
-      map f (range_with_len 0 k),
-      f k,
-      map f h.0,
-      ap (map f) h.1 ∙ map-append f (range_with_len 0 k) ((0 + k) ∷ h.0) ∙ ap (λ x. map f (range_with_len 0 k) ++ f x ∷ map f h.0) e,
-      is ∙ ap (λ (cs : List Call). cs ++ refused (f k)) before ∙ append_assoc calls (granted (map f (range_with_len 0 k))) (refused (f k)),
-    )
+    let e : 0 + k ≡ k = omega arith in
+    record {
+      given = map f (range_with_len 0 k);
+      ask = f k;
+      later = map f h.0;
+      order = ap (map f) h.1 ∙ map-append f (range_with_len 0 k) ((0 + k) ∷ h.0) ∙ ap (λ x. map f (range_with_len 0 k) ++ f x ∷ map f h.0) e;
+      made = is ∙ ap (λ (cs : List Call). cs ++ refused (f k)) before ∙ append_assoc calls (granted (map f (range_with_len 0 k))) (refused (f k));
+    }
 
 station_of : Ask → ℕ
 station_of (asks.Station n) = n
@@ -113,21 +114,17 @@ module _ (n : ℕ) (calls now : List Call) (before : calls ≡ granted (map asks
 pub operator_unasked : (n : ℕ) (calls : List Call) → calls ≡ granted (map asks.Station (range_with_len 0 n)) → IsUnasked asks.Operator calls
 operator_unasked n calls is = subst (IsUnasked asks.Operator) (sym is) (new_operator 0 n)
 
--- calls up to one that was refused
-abbrev pub Refused : List Ask → List Call → List Call → Type 0
-Refused asked calls then_ = (given : List Ask) × (ask : Ask) × (later : List Ask) × (asked ≡ given ++ ask ∷ later) × (then_ ≡ calls ++ (granted given ++ refused ask))
-
 -- the operator was asked for before the others
-pub operator_first : (others : List Ask) (calls mid then_ last : List Call) → mid ≡ calls ++ record { ask = asks.Operator; ok = true } ∷ [] → Refused others mid then_ → last ≡ then_
-    → Refused (asks.Operator ∷ others) calls last
-operator_first others calls mid then_ last first h same = (
-  asks.Operator ∷ h.0,
-  h.1,
-  h.2,
-  ap (λ (t : List Ask). asks.Operator ∷ t) h.3,
-  same ∙ h.4 ∙ ap (λ (cs : List Call). cs ++ (granted h.0 ++ refused h.1)) first
-      ∙ append_assoc calls (record { ask = asks.Operator; ok = true } ∷ []) (granted h.0 ++ refused h.1),
-)
+pub operator_first : (others : List Ask) (calls mid then_ last : List Call) → mid ≡ calls ++ record { ask = asks.Operator; ok = true } ∷ [] → UpToRefused others mid then_
+    → last ≡ then_ → UpToRefused (asks.Operator ∷ others) calls last
+operator_first others calls mid then_ last first h same = record {
+  given = asks.Operator ∷ h.given;
+  ask = h.ask;
+  later = h.later;
+  order = ap (λ (t : List Ask). asks.Operator ∷ t) h.order;
+  made = same ∙ h.made ∙ ap (λ (cs : List Call). cs ++ (granted h.given ++ refused h.ask)) first
+      ∙ append_assoc calls (record { ask = asks.Operator; ok = true } ∷ []) (granted h.given ++ refused h.ask);
+}
 
 -- a call for a gate, by the gate's number
 pub gate_handed : (n asked given : ℕ) (mid new : Doorway) → IsHandedOut (asks.Gate asked) (asks.Gate given) mid new → asked ≡ n → given ≡ n → IsHandedOut (asks.Gate n) (asks.Gate n) mid new
@@ -143,16 +140,24 @@ pub asked_behind : {T E : Type 0} (first others : List Ask) (r : Result T E) (ca
 asked_behind first others (Ok x) calls mid then_ before is =
     is ∙ ap (λ (cs : List Call). cs ++ granted others) before ∙ append_assoc calls (granted first) (granted others)
     ∙ ap (λ (t : List Call). calls ++ t) (sym (map-append (λ ask. record { ask = ask; ok = true }) first others))
-asked_behind first others (Err e) calls mid then_ before h = (
-  first ++ h.0,
-  h.1,
-  h.2,
-  ap (λ (t : List Ask). first ++ t) h.3 ∙ sym (append_assoc first h.0 (h.1 ∷ h.2)),
-  h.4 ∙ ap (λ (cs : List Call). cs ++ (granted h.0 ++ refused h.1)) before ∙ append_assoc calls (granted first) (granted h.0 ++ refused h.1)
+asked_behind first others (Err e) calls mid then_ before h = record {
+  given = first ++ h.given;
+  ask = h.ask;
+  later = h.later;
+  order = ap (λ (t : List Ask). first ++ t) h.order ∙ sym (append_assoc first h.given (h.ask ∷ h.later));
+  made = h.made ∙ ap (λ (cs : List Call). cs ++ (granted h.given ++ refused h.ask)) before
+      ∙ append_assoc calls (granted first) (granted h.given ++ refused h.ask)
       ∙ ap (λ (t : List Call). calls ++ t)
-      (sym (append_assoc (granted first) (granted h.0) (refused h.1)) ∙ ap (λ (t : List Call). t ++ refused h.1) (sym (map-append (λ ask. record { ask = ask; ok = true }) first h.0))),
-)
+      (sym (append_assoc (granted first) (granted h.given) (refused h.ask))
+      ∙ ap (λ (t : List Call). t ++ refused h.ask) (sym (map-append (λ ask. record { ask = ask; ok = true }) first h.given)));
+}
 
 -- some of the first were refused
-pub refused_before : (first others : List Ask) (calls then_ : List Call) → Refused first calls then_ → Refused (first ++ others) calls then_
-refused_before first others calls then_ h = (h.0, h.1, h.2 ++ others, ap (λ (t : List Ask). t ++ others) h.3 ∙ append_assoc h.0 (h.1 ∷ h.2) others, h.4)
+pub refused_before : (first others : List Ask) (calls then_ : List Call) → UpToRefused first calls then_ → UpToRefused (first ++ others) calls then_
+refused_before first others calls then_ h = record {
+  given = h.given;
+  ask = h.ask;
+  later = h.later ++ others;
+  order = ap (λ (t : List Ask). t ++ others) h.order ∙ append_assoc h.given (h.ask ∷ h.later) others;
+  made = h.made;
+}

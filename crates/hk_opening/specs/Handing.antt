@@ -9,16 +9,25 @@ use Rattle.hk_outside.specs.declared.door.Ask.TheVariants as asks
 use Rattle.hk_outside.specs.declared.door.Ask.{Ask}
 use Rattle.hk_outside.specs.declared.door.Call.{Call}
 use Rattle.hk_outside.specs.declared.door.Held.TheVariants.{Outside, Back}
+use Rattle.hk_outside.specs.declared.door.Start.TheVariants.{Started, Refused}
 use Rattle.hk_spec_monitor.specs.Devices.{granted}
 
 -- these were refused
 abbrev pub refused : Ask → List Call
 refused ask = record { ask = ask; ok = false } ∷ []
 
+-- These were asked for in order and handed out, up to the first that was refused.
+pub record UpToRefused (asked : List Ask) (calls calls' : List Call) : Type 0 where
+  pub given : List Ask
+  pub ask : Ask
+  pub later : List Ask
+  pub order : asked ≡ given ++ ask ∷ later
+  pub made : calls' ≡ calls ++ (granted given ++ refused ask)
+
 -- All these were asked for in order and handed out, or those up to the first that was refused.
 abbrev pub AskedFor : {T E : Type 0} → List Ask → Result T E → List Call → List Call → Type 0
 AskedFor asked (Ok x) calls calls' = calls' ≡ calls ++ granted asked
-AskedFor asked (Err e) calls calls' = (given : List Ask) × (ask : Ask) × (later : List Ask) × (asked ≡ given ++ ask ∷ later) × (calls' ≡ calls ++ (granted given ++ refused ask))
+AskedFor asked (Err e) calls calls' = UpToRefused asked calls calls'
 
 -- whether it was started, and its plan, stay
 pub record SameStart (old new : Doorway) : Type 0 where
@@ -73,3 +82,7 @@ pub record OperatorIsUnused (old new : Doorway) : Type 0 where
 -- what opens a run of this plan, in this order
 abbrev pub opening_of : Planned → List Ask
 opening_of plan = map asks.Station (range_with_len 0 plan.stations) ++ asks.Operator ∷ map asks.Gate (range_with_len 0 plan.workers)
+
+-- The start was refused, and nothing was asked for; or the door was started, and asked for this in order up to the first that it refused.
+abbrev pub WasRefused : List Ask → Doorway → Type 0
+WasRefused asked door = ((door.start ≡ Refused) × (door.calls ≡ [])) ⊎ ((door.start ≡ Started) × UpToRefused asked [] door.calls)

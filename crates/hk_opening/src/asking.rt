@@ -24,6 +24,7 @@ pub fn open_stations<D: Door>(
     ensures asked { AskedFor (map asks.Station (range_with_len 0 count)) result (D.doorway door.old).calls (D.doorway door.new).calls }
     ensures start { SameStart (D.doorway door.old) (D.doorway door.new) }
     ensures out { StationsAreOut D.Link.Link D.Log.Sink stations.new.items (D.doorway door.old) (D.doorway door.new) }
+    ensures few { length stations.new.items ≤ count }
     ensures all { OnOk result (length stations.new.items ≡ count) }
     ensures operator { (D.doorway door.new).operator ≡ (D.doorway door.old).operator }
     ensures gates { GatesAreOut D.Gate.faults [] (D.doorway door.old) (D.doorway door.new) }
@@ -50,6 +51,7 @@ fn open_gates<D: Door>(door: &mut D, count: u8, gates: &mut Vec<D::Gate>) -> Res
     ensures asked { AskedFor (map asks.Gate (range_with_len 0 count)) result (D.doorway door.old).calls (D.doorway door.new).calls }
     ensures start { SameStart (D.doorway door.old) (D.doorway door.new) }
     ensures out { GatesAreOut D.Gate.faults gates.new.items (D.doorway door.old) (D.doorway door.new) }
+    ensures few { length gates.new.items ≤ count }
     ensures all { OnOk result (length gates.new.items ≡ count) }
     ensures operator { (D.doorway door.new).operator ≡ (D.doorway door.old).operator }
     ensures stations { (n : ℕ) → (D.doorway door.new).stations n ≡ (D.doorway door.old).stations n }
@@ -68,6 +70,7 @@ fn open_gates<D: Door>(door: &mut D, count: u8, gates: &mut Vec<D::Gate>) -> Res
 
 /// Asks for the operator and so many gates, up to the first call that is refused. Where a gate is refused the operator's calls
 /// and replies are handed back.
+#[tactic(auto, using(crate::proofs::Order::operator_first))]
 pub fn open_rest<D: Door>(
     door: &mut D,
     count: u8,
@@ -81,6 +84,7 @@ pub fn open_rest<D: Door>(
     ensures asked { AskedFor (asks.Operator ∷ map asks.Gate (range_with_len 0 count)) result (D.doorway door.old).calls (D.doorway door.new).calls }
     ensures start { SameStart (D.doorway door.old) (D.doorway door.new) }
     ensures out { GatesAreOut D.Gate.faults gates.new.items (D.doorway door.old) (D.doorway door.new) }
+    ensures few { length gates.new.items ≤ count }
     ensures all { OnOk result (length gates.new.items ≡ count) }
     ensures operator { IfOk result (λ pair. OperatorIsOut D.Calls.Source D.Replies.Sink pair (D.doorway door.old) (D.doorway door.new)) }
     ensures unused { OnErr result (OperatorIsUnused (D.doorway door.old) (D.doorway door.new)) }

@@ -1,5 +1,5 @@
 // What hands objects back to a door.
-ghost use Rattle.std.specs.Prelude.{◌≡◌, ◌≤◌, ◌<◌, ℕ, length};
+ghost use Rattle.std.specs.Prelude.{◌≡◌, ◌≤◌, ◌<◌, ℕ, [], length};
 ghost use Rattle.hk_outside.specs.declared.door.Held.TheVariants as held;
 ghost use Rattle.hk_opening.specs.Handing.{StationsAreBack, GatesAreBack, SameDoor};
 
@@ -10,6 +10,7 @@ pub fn return_stations<D: Door>(door: &mut D, stations: &mut Vec<(D::Link, D::Lo
     requires out { (n : ℕ) → n < length stations.old.items → ((D.doorway door.old).stations n).held ≡ held.Outside }
     requires few { length stations.old.items ≤ 256 }
     ensures back { StationsAreBack D.Link.Link D.Log.Sink stations.old.items (D.doorway door.old) (D.doorway door.new) }
+    ensures emptied { stations.new.items ≡ [] }
     ensures same { SameDoor (D.doorway door.old) (D.doorway door.new) }
     ensures operator { (D.doorway door.new).operator ≡ (D.doorway door.old).operator }
     ensures gates { (w : ℕ) → (D.doorway door.new).gates w ≡ (D.doorway door.old).gates w }
@@ -24,6 +25,7 @@ pub fn return_gates<D: Door>(door: &mut D, gates: &mut Vec<D::Gate>)
     requires out { (w : ℕ) → w < length gates.old.items → ((D.doorway door.old).gates w).held ≡ held.Outside }
     requires few { length gates.old.items ≤ 256 }
     ensures back { GatesAreBack D.Gate.faults gates.old.items (D.doorway door.old) (D.doorway door.new) }
+    ensures emptied { gates.new.items ≡ [] }
     ensures same { SameDoor (D.doorway door.old) (D.doorway door.new) }
     ensures operator { (D.doorway door.new).operator ≡ (D.doorway door.old).operator }
     ensures stations { (n : ℕ) → (D.doorway door.new).stations n ≡ (D.doorway door.old).stations n }

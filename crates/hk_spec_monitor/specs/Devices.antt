@@ -1,7 +1,7 @@
 -- A run at the door: the calls that opened it, what was read and written, and that all was handed back.
 use Rattle.std.specs.Prelude.{◌≡◌, ◌≢◌, ◌⊎◌, ℕ, ◌<◌, true, false, List, [], ◌∷◌, ◌++◌, map, length, Some, None}
 use Rattle.std.specs.List.{All, range_with_len}
-use Rattle.hk_base.specs.Devices.{Took, Wrote}
+use Rattle.hk_base.specs.Devices.{Took, Wrote, Rose}
 use Rattle.hk_spec_streams.specs.Station.{station_wrong}
 use Rattle.hk_spec_streams.specs.Operator.{operator_wrong}
 use Rattle.hk_spec_settings.specs.Settings.{Rules}
@@ -80,19 +80,19 @@ pub record IsAtDoor (rules : Rules) (old new : Doorway) (run : Run) : Type 0 whe
   pub calls : Took run.operator.taken old.operator.gives.bytes new.operator.gives.bytes
   pub replies : Wrote (answers_text rules run.operator) old.operator.takes.bytes new.operator.takes.bytes
 
--- a pair whose bytes are told and right, and whose counts stayed
+-- a pair whose bytes are told and right, and of which no count rose
 pub record IsSound (IsRight : List ℕ → Type 0) (old new : Pair) : Type 0 where
   pub bytes : List ℕ
   pub told : old.gives.bytes ≡ Some bytes
   pub right : IsRight bytes
-  pub read : new.gives.faults ≡ old.gives.faults
-  pub written : new.takes.faults ≡ old.takes.faults
+  pub read : Rose old.gives.faults new.gives.faults → ⊥
+  pub written : Rose old.takes.faults new.takes.faults → ⊥
 
 -- nothing outside failed, and all streams are in order
 pub record IsFaultless (setup : Setup) (old new : Doorway) : Type 0 where
   pub stations : (n : ℕ) → n < setup.rules.stations → IsSound (λ bytes. station_wrong setup.rules.bytes bytes ≡ None) (old.stations n) (new.stations n)
   pub operator : IsSound (λ bytes. operator_wrong setup.rules.bytes bytes ≡ None) old.operator new.operator
-  pub gates : (w : ℕ) → w < setup.workers → (new.gates w).faults ≡ (old.gates w).faults
+  pub gates : (w : ℕ) → w < setup.workers → Rose (old.gates w).faults (new.gates w).faults → ⊥
 
 -- Then every stream ended in order, where no fence was ahead.
 abbrev pub EndsInOrder : Setup → Doorway → Doorway → Run → Type 0

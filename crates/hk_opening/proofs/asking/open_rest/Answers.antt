@@ -1,4 +1,4 @@
-use Rattle.hk_opening.proofs.Order.{no_gate_asked, no_gate_given, operator_first, operator_unasked}
+use Rattle.hk_opening.proofs.Order.{no_gate_asked, no_gate_given, operator_unasked}
 use Rattle.hk_opening.proofs.asking.open_rest.Goals as goal
 
 pub operator-requires-clause-once : goal.operator-requires-clause-once
@@ -9,7 +9,3 @@ open_gates-requires-clause-none_asked g c κs within = no_gate_asked c.requires.
 
 pub open_gates-requires-clause-none_given : goal.open_gates-requires-clause-none_given
 open_gates-requires-clause-none_given g c κs within = no_gate_given c.requires.stations.0 _ _ c.requires.stations.1 c.in-Ok.ensures.ok.asked.calls
-
-pub returns-in-Err-open_gates-clause-asked : goal.returns-in-Err-open_gates-clause-asked
-returns-in-Err-open_gates-clause-asked g c =
-    operator_first _ _ _ _ _ c.in-Ok.ensures.ok.asked.calls c.in-Err-open_gates.ensures.asked c.return_operator.ensures.back.calls

@@ -1,0 +1,8 @@
+mod Rows
+mod ByNumber
+mod Returning
+mod InOrder
+mod Carrying
+mod Concluding
+mod AtDoor
+mod Deciding
