@@ -1,5 +1,5 @@
 -- What a listener's end says of its bytes, and that each fence of bytes without a fault was met.
-use Rattle.std.proofs.Common.{◌≡◌, ◌≤◌, ℕ, zero, suc, Bool, true, false, cond, Option, Some, None, List, [], ◌∷◌, ◌++◌, map, All, refl, sym, ◌∙◌, ap, subst, arith, append-nil, append_assoc, ◌⊎◌, inl, inr, option_map}
+use Rattle.std.proofs.Common.{◌≡◌, ◌≤◌, ℕ, zero, suc, Bool, true, false, cond, Option, Some, None, List, [], ◌∷◌, ◌++◌, All, refl, sym, ◌∙◌, ap, subst, arith, append-nil, append_assoc, inl, inr, option_map}
 use Rattle.std.specs.Prelude.{⊤, nat_lt, is_some}
 use Rattle.std.proofs.lemmas.Bool.{lt-ltb}
 use Rattle.std.proofs.lemmas.Bool.Decides.{leb_tells}
@@ -13,6 +13,7 @@ use Rattle.hk_spec_streams.specs.Grammar.{packets}
 use Rattle.hk_spec_streams.specs.Station.{Fence, fences, station_met, station_fault}
 use Rattle.hk_spec_streams.specs.Blocks.{Block, blocks}
 use Rattle.hk_spec_streams.proofs.NextFault.{fault_of-none, fault_of-some, fault_of-stays}
+use Rattle.hk_spec_streams.proofs.Optional.{none_or_some}
 use Rattle.hk_station_wire.specs.LastPacket.{last_packet}
 use Rattle.hk_station_wire.proofs.GrowingFences.{fences-append, fences_completed}
 use Rattle.hk_station_wire.proofs.WellFormed.{fits, no_open_fence}
@@ -20,7 +21,7 @@ use Rattle.hk_spec_settings.specs.Settings.{Rules}
 use Rattle.hk_spec_runs.specs.Replay.{Listener}
 use Rattle.hk_spec_runs.specs.Listening.{Instant, bytes_in, unheard, looks_gained, looks_over, after_one, after}
 use Rattle.hk_spec_runs.proofs.Listening.{next_over, next_fault, next_on}
-use Rattle.hk_account.proofs.Steps.{looks_for, first_ahead, version_after, version_for, Step, step}
+use Rattle.hk_account.proofs.Steps.{looks_for, first_ahead, version_after, version_for, Step, step, at_one, none_first}
 
 -- each of these fences asks for at most this version
 abbrev pub MetBy : ℕ → List Fence → Type 0
@@ -60,11 +61,7 @@ none_more v (f ∷ fs) none = elim (leb_tells f.asked v) [
 
 -- the looks of fences that were met leave at least the version that these ask for
 last_v : (w v : ℕ) (bs : List Block) (f : Fence) (fs : List Fence) → version_after w (looks_for v bs (f ∷ fs)) ≡ v
-last_v w v [] f fs = later v fs
-  where
-    later : (v : ℕ) (fs : List Fence) → version_after v (map (λ fence. v) fs) ≡ v
-    later v [] = refl
-    later v (f ∷ fs) = later v fs
+last_v w v [] f fs = at_one v [] fs
 last_v w v (b ∷ bs) f fs = last_v v v bs f fs
 
 met_for : (w v : ℕ) (bs : List Block) (fs : List Fence) → first_ahead v fs ≡ None → MetBy (version_after w (looks_for v bs fs)) fs
@@ -94,11 +91,7 @@ pub record Course (rules : Rules) (l : Listener) (bytes : List ℕ) : Type 0 whe
   pub fails : (fault : WireFault) → l.end ≡ Some (ends.Wire fault) → station_fault rules.bytes bytes ≡ Some fault
   pub own : (end : End) → l.end ≡ Some end → IsOwn end
 
-maybe : {A : Type 0} (o : Option A) → (o ≡ None) ⊎ ((x : A) × (o ≡ Some x))
-maybe None = inl refl
-maybe (Some x) = inr (x, refl)
-
-end_is : (x y : End) → Some x ≡ Some y → x ≡ y
+pub end_is : (x y : End) → Some x ≡ Some y → x ≡ y
 end_is x y same = cc
 
 module _ (rules : Rules) where
@@ -146,16 +139,12 @@ module _ (rules : Rules) where
           fault_of-none (station_met rules.bytes) l.used i.byte none fine,
           subst (λ v. MetBy v (fences text)) (sym version) (subst (MetBy (version_after l.version (looks_for i.version bs fs))) (sym (fences_more l.used i.byte none))
               (met_both (version_after l.version (looks_for i.version bs fs)) (fences l.used) fs (met_later l.version (version_after l.version (looks_for i.version bs fs)) (fences l.used) grows met)
-              (met_for l.version i.version bs fs (none_first (first_ahead i.version fs) (sym ended ∙ isnt))))),
+              (met_for l.version i.version bs fs (none_first i.version (first_ahead i.version fs) (sym ended ∙ isnt))))),
         );
         fails = λ fault is. absurd (no_wire (first_ahead i.version fs) fault (sym ended ∙ is));
         own = λ end is. is_own (first_ahead i.version fs) end (sym ended ∙ is);
       }
     where
-      none_first : (o : Option ℕ) → option_map (λ a. ends.FenceAhead a i.version) o ≡ None → o ≡ None
-      none_first None none = refl
-      none_first (Some a) none = absurd (let no : Some (ends.FenceAhead a i.version) ≡ None = none in cc)
-
       no_wire : (o : Option ℕ) (fault : WireFault) → option_map (λ a. ends.FenceAhead a i.version) o ≡ Some (ends.Wire fault) → ⊥
       no_wire None fault is = let no : None ≡ Some (ends.Wire fault) = is in cc
       no_wire (Some a) fault is = let no : Some (ends.FenceAhead a i.version) ≡ Some (ends.Wire fault) = is in cc
@@ -165,13 +154,13 @@ module _ (rules : Rules) where
       is_own (Some a) end is = subst IsOwn (end_is (ends.FenceAhead a i.version) end is) tt
 
   one_step : (l : Listener) (bytes : List ℕ) (i : Instant) (to : ℕ) → Course rules l bytes → Rise l.version (looks_gained rules i.version l i.byte) to → Course rules (after_one rules l i) (bytes ++ i.byte ∷ [])
-  one_step l bytes i to course rise = elim (maybe l.end) [
+  one_step l bytes i to course rise = elim (none_or_some l.end) [
     | inr over ↦ over_step l bytes i over.0 over.1 course
     | inl going ↦
         let now = course.going going in
         let none : station_fault rules.bytes l.used ≡ None = ap (station_fault rules.bytes) now.0 ∙ now.1 in
         subst (λ t. Course rules (after_one rules l i) (t ++ i.byte ∷ [])) now.0
-        (elim (maybe (station_met rules.bytes (l.used ++ i.byte ∷ []))) [
+        (elim (none_or_some (station_met rules.bytes (l.used ++ i.byte ∷ []))) [
           | inr fault ↦ fault_step l i fault.0 going none fault.1
           | inl fine ↦ fine_step l i to going none (subst (λ t. MetBy l.version (fences t)) (sym now.0) now.2) fine rise
         ])

@@ -8,6 +8,7 @@ use Rattle.std.proofs.lemmas.Grind.{flat_map-append}
 use Rattle.std.proofs.lemmas.List.{take-append-le, take_all}
 use Rattle.std.proofs.lemmas.List.Folds.{flat_map-map}
 use Rattle.std.proofs.lemmas.List.FromFn.{map-range_with_len_more}
+use Rattle.hk_spec_sound.proofs.Growing.{Grows, by_one}
 use Rattle.hk_spec_sound.proofs.GrowingWindows.{map_range_same}
 use Rattle.hk_spec_streams.specs.Station.{Fence}
 use Rattle.hk_spec_streams.specs.Blocks.{Setting, Block, Moment, Full, Asks, moments_at, moments}
@@ -30,6 +31,11 @@ moments-append s text b =
     ∙ ap (λ ms. all ms ++ (at longer n ++ [])) (map_range_same (at longer) (at text) 0 n (λ i low high. ap (moments_at s) (take-append-le (i + 1) text (b ∷ []) (omega arith))))
     ∙ ap (λ ms. ms ++ (at longer n ++ [])) (flat_map-map (λ ms. ms) (at text) (range_with_len 0 n))
     ∙ ap (λ ms. moments s text ++ ms) (append-nil (at longer n) ∙ ap (moments_at s) whole)
+
+-- the moments of a text begin those of any longer one
+pub moments_grow : (s : Setting) (text more : List ℕ) → (ms : List Moment) × (moments s (text ++ more) ≡ moments s text ++ ms)
+unfolding Grows
+moments_grow s text more = by_one (moments s) (λ t b. (moments_at s (t ++ b ∷ []), moments-append s t b)) text more
 
 -- looks at one version of all that a byte completes
 pub looks_at-moments : (v : ℕ) (bs : List Block) (fs : List Fence) → length (map (λ block. v) bs ++ map (λ fence. v) fs) ≡ length (map Full bs ++ map (λ (f : Fence). Asks f.asked) fs)

@@ -1,5 +1,5 @@
 -- What one byte more adds to what a station's bytes complete, and to the looks that are made.
-use Rattle.std.proofs.Common.{◌≡◌, ℕ, ◌+◌, Bool, true, false, cond, Option, Some, None, List, [], ◌∷◌, ◌++◌, map, length, refl, sym, ◌∙◌, ap, arith, append-nil, length-append, ◌⊎◌, inl, inr, option_map}
+use Rattle.std.proofs.Common.{◌≡◌, ℕ, ◌+◌, Bool, true, false, cond, Option, Some, None, List, [], ◌∷◌, ◌++◌, map, length, refl, sym, ◌∙◌, ap, arith, append-nil, length-append, inl, inr, option_map}
 use Rattle.std.specs.Prelude.{find, nat_lt, is_some, unwrap_or}
 use Rattle.std.specs.Option.{option_map_or}
 use Rattle.std.specs.List.{enumerate_from, last_or}
@@ -10,6 +10,7 @@ use Rattle.hk_base.specs.declared.plain.End.TheVariants as ends
 use Rattle.hk_spec_streams.specs.Pieces.{completed}
 use Rattle.hk_spec_streams.specs.Station.{Fence, station_met, fences}
 use Rattle.hk_spec_streams.specs.Blocks.{Block, Moment, Full, Asks, blocks, moments}
+use Rattle.hk_spec_streams.proofs.Optional.{none_or_some}
 use Rattle.hk_spec_settings.specs.Settings.{Rules}
 use Rattle.hk_spec_runs.specs.Replay.{Listener, new_blocks}
 use Rattle.hk_spec_runs.specs.Listening.{Instant, blocks_gained, looks_gained, after_one}
@@ -69,24 +70,22 @@ asked_of (Some ends.ReadFault) = 0
 asked_of (Some ends.GateFault) = 0
 asked_of None = 0
 
-maybe : {A : Type 0} (o : Option A) → (o ≡ None) ⊎ ((x : A) × (o ≡ Some x))
-maybe None = inl refl
-maybe (Some x) = inr (x, refl)
+-- further looks at the version of the last one
+pub at_one : (v : ℕ) (bs : List Block) (fs : List Fence) → version_after v (looks_for v bs fs) ≡ v
+at_one v [] [] = refl
+at_one v [] (f ∷ fs) = at_one v [] fs
+at_one v (b ∷ bs) fs = at_one v bs fs
+
+-- where a fence ahead would end it, and nothing did, no fence was ahead
+pub none_first : (v : ℕ) (o : Option ℕ) → option_map (λ a. ends.FenceAhead a v) o ≡ None → o ≡ None
+none_first v None none = refl
+none_first v (Some a) none = absurd (let no : Some (ends.FenceAhead a v) ≡ None = none in cc)
 
 -- the last of looks at one version
 pub version_for : (w v : ℕ) (bs : List Block) (fs : List Fence) → version_after w (looks_for v bs fs) ≡ cond (nat_lt 0 (length bs + length (map (λ (f : Fence). f.asked) fs))) v w
 version_for w v [] [] = refl
-version_for w v [] (f ∷ fs) = later v fs ∙ sym (ap (λ c. cond c v w) (lt-ltb 0 (0 + length (map (λ (g : Fence). g.asked) (f ∷ fs))) (omega arith)))
-  where
-    later : (v : ℕ) (fs : List Fence) → version_after v (map (λ fence. v) fs) ≡ v
-    later v [] = refl
-    later v (f ∷ fs) = later v fs
-version_for w v (b ∷ bs) fs = later v bs fs ∙ sym (ap (λ c. cond c v w) (lt-ltb 0 (length (b ∷ bs) + length (map (λ (g : Fence). g.asked) fs)) (omega arith)))
-  where
-    later : (v : ℕ) (bs : List Block) (fs : List Fence) → version_after v (looks_for v bs fs) ≡ v
-    later v [] [] = refl
-    later v [] (f ∷ fs) = later v [] fs
-    later v (b ∷ bs) fs = later v bs fs
+version_for w v [] (f ∷ fs) = at_one v [] fs ∙ sym (ap (λ c. cond c v w) (lt-ltb 0 (0 + length (map (λ (g : Fence). g.asked) (f ∷ fs))) (omega arith)))
+version_for w v (b ∷ bs) fs = at_one v bs fs ∙ sym (ap (λ c. cond c v w) (lt-ltb 0 (length (b ∷ bs) + length (map (λ (g : Fence). g.asked) fs)) (omega arith)))
 
 module _ (rules : Rules) where
   -- no block is gained where the bytes used stay
@@ -113,11 +112,11 @@ module _ (rules : Rules) where
 
   pub step : (l : Listener) (i : Instant) → Step rules l i
   unfolding found_of asked_of
-  step l i = elim (maybe l.end) [
+  step l i = elim (none_or_some l.end) [
     | inr over ↦ idle l l i (next_over rules l i over.0 over.1) refl refl
         (ap (λ e. cond (is_some e) [] (cond (is_some (station_met rules.bytes text)) [] rest)) over.1)
         (λ asked found going ended. let no : Some (ends.FenceAhead asked found) ≡ None = sym ended ∙ going in cc)
-    | inl going ↦ elim (maybe (station_met rules.bytes text)) [
+    | inl going ↦ elim (none_or_some (station_met rules.bytes text)) [
       | inr fault ↦ idle l (record l { end = Some (ends.Wire fault.0) }) i (next_fault rules l i going fault.0 fault.1) refl refl
           (ap (λ e. cond (is_some e) [] (cond (is_some (station_met rules.bytes text)) [] rest)) going ∙ ap (λ o. cond (is_some o) [] rest) fault.1)
           (λ asked found none ended. wire_isnt fault.0 asked found ended)
@@ -137,7 +136,7 @@ module _ (rules : Rules) where
             stay = ap (moments rules.setting) used ∙ moments-append rules.setting l.used i.byte;
             version = ap (λ (m : Listener). m.version) next ∙ sym (version_for l.version i.version bs fs);
             over = λ end is. absurd (let no : Some end ≡ None = sym is ∙ going in cc);
-            goes = λ none. none_first (first_ahead i.version fs) (sym ended ∙ none);
+            goes = λ none. none_first i.version (first_ahead i.version fs) (sym ended ∙ none);
             wire = λ not_ahead. not_first (first_ahead i.version fs) (sym (ap was_ahead ended) ∙ not_ahead);
             waits = λ asked found none is. (
               (first_is (first_ahead i.version fs) asked found (sym ended ∙ is)).0,
@@ -165,10 +164,6 @@ module _ (rules : Rules) where
 
       wire_isnt : (fault : WireFault) (asked found : ℕ) → Some (ends.Wire fault) ≡ Some (ends.FenceAhead asked found) → ⊥
       wire_isnt fault asked found same = cc
-
-      none_first : (o : Option ℕ) → option_map (λ a. ends.FenceAhead a i.version) o ≡ None → o ≡ None
-      none_first None none = refl
-      none_first (Some a) none = absurd (let no : Some (ends.FenceAhead a i.version) ≡ None = none in cc)
 
       not_first : (o : Option ℕ) → was_ahead (option_map (λ a. ends.FenceAhead a i.version) o) ≡ false → o ≡ None
       not_first None none = refl

@@ -1,5 +1,5 @@
 -- What all bytes of a station complete, beside the looks that were made, and how a fence ended it.
-use Rattle.std.proofs.Common.{◌≡◌, ◌≤◌, ◌<◌, ℕ, ◌+◌, false, cond, Option, Some, None, List, [], ◌∷◌, ◌++◌, map, length, refl, sym, ◌∙◌, ap, subst, arith, append_assoc, append-nil, length-append, ◌⊎◌, inl, inr}
+use Rattle.std.proofs.Common.{◌≡◌, ◌≤◌, ◌<◌, ℕ, ◌+◌, false, cond, Some, None, List, [], ◌∷◌, ◌++◌, map, length, refl, sym, ◌∙◌, ap, subst, arith, append_assoc, append-nil, length-append, inl, inr}
 use Rattle.std.specs.Prelude.{unwrap_or}
 use Rattle.std.proofs.lemmas.Bool.{lt-ltb, le-ltb}
 use Rattle.std.proofs.lemmas.Bool.Decides.{leb_tells}
@@ -9,6 +9,7 @@ use Rattle.hk_base.specs.declared.plain.End.TheVariants as ends
 use Rattle.hk_spec_streams.specs.Station.{Fence, fences}
 use Rattle.hk_spec_streams.specs.Pieces.{completed}
 use Rattle.hk_spec_streams.specs.Blocks.{Block, Moment, Full, Asks, moments}
+use Rattle.hk_spec_streams.proofs.Optional.{none_or_some}
 use Rattle.hk_spec_settings.specs.Settings.{Rules}
 use Rattle.hk_spec_runs.specs.Replay.{Listener}
 use Rattle.hk_spec_runs.specs.Listening.{Instant, looks_gained, after_one, after, looks_over, versions_over}
@@ -40,10 +41,6 @@ pub record Ahead (rules : Rules) (l : Listener) (instants : List Instant) (asked
 abbrev pub OneFence : Type 0
 OneFence = (text : List ℕ) (b : ℕ) → length (completed fences (text ++ b ∷ [])) ≤ 1
 
-maybe : {A : Type 0} (o : Option A) → (o ≡ None) ⊎ ((x : A) × (o ≡ Some x))
-maybe None = inl refl
-maybe (Some x) = inr (x, refl)
-
 version_after-append : (v : ℕ) (xs ys : List ℕ) → version_after v (xs ++ ys) ≡ version_after (version_after v xs) ys
 version_after-append v [] ys = refl
 version_after-append v (x ∷ xs) ys = version_after-append x xs ys
@@ -72,7 +69,7 @@ module _ (rules : Rules) where
 
   -- an end that comes later tells of this one
   not_before : (l : Listener) (rest : List Instant) → was_ahead (after rules l rest).end ≡ false → was_ahead l.end ≡ false
-  not_before l rest later = elim (maybe l.end) [
+  not_before l rest later = elim (none_or_some l.end) [
     | inl going ↦ ap was_ahead going
     | inr over ↦ sym (ap (λ (m : Listener). was_ahead m.end) (after_over l over.0 rest over.1)) ∙ later
   ]
@@ -127,7 +124,7 @@ module _ (rules : Rules) where
   ahead one l (i ∷ rest) asked found going is =
       let next : Listener = after_one rules l i in
       let this : Step rules l i = step rules l i in
-      elim (maybe next.end) [
+      elim (none_or_some next.end) [
         | inr over ↦
             let stays : after rules next rest ≡ next = after_over next over.0 rest over.1 in
             let now : next.end ≡ Some (ends.FenceAhead asked found) = sym (ap (λ (m : Listener). m.end) stays) ∙ is in

@@ -1,7 +1,8 @@
 -- What a station's instants add up to where a line was torn at the last of them.
-use Rattle.std.proofs.Common.{◌≡◌, ◌<◌, ℕ, zero, suc, ◌+◌, true, false, cond, Option, Some, None, List, [], ◌∷◌, ◌++◌, map, length, slice_get, refl, sym, ◌∙◌, ap, subst, arith, append-nil, append_assoc, length-append, ◌⊎◌, inl, inr}
+use Rattle.std.proofs.Common.{◌≡◌, ◌<◌, ℕ, zero, suc, ◌+◌, true, false, cond, Option, Some, None, List, [], ◌∷◌, ◌++◌, map, length, slice_get, refl, sym, ◌∙◌, ap, subst, arith, append-nil, append_assoc, length-append, inl, inr}
 use Rattle.std.specs.Prelude.{is_some, unwrap_or}
 use Rattle.std.specs.List.{enumerate_from, last_or}
+use Rattle.std.proofs.lemmas.Option.{slice_get_within}
 use Rattle.hk_base.specs.declared.plain.WireFault.{WireFault}
 use Rattle.hk_base.specs.declared.plain.End.TheVariants as ends
 use Rattle.hk_spec_streams.specs.Pieces.{completed}
@@ -9,6 +10,7 @@ use Rattle.hk_spec_streams.specs.Station.{Fence, fences, station_met, station_fa
 use Rattle.hk_spec_streams.specs.Blocks.{Block, Moment, Full, Asks, blocks, moments, moments_at}
 use Rattle.hk_spec_streams.proofs.Completed.{completed-more}
 use Rattle.hk_spec_streams.proofs.NextFault.{seen_of-all, fault_of-none, fault_of-some, fault_of-stays}
+use Rattle.hk_spec_streams.proofs.Optional.{none_or_some}
 use Rattle.hk_spec_matching.specs.Catalogue.{Songs, Rise}
 use Rattle.hk_spec_matching.specs.Matching.{matches}
 use Rattle.hk_spec_matching.proofs.Rising.{Rise-split}
@@ -26,8 +28,8 @@ use Rattle.hk_account.proofs.Course.{Course, course}
 use Rattle.hk_account.proofs.Steps.{was_ahead}
 use Rattle.hk_account.proofs.Sums.{Sum, sum}
 use Rattle.hk_account.proofs.Accounts.{no_moments, length-reported, versions-reported, lists-reported, rise_last, last_is}
-use Rattle.hk_account.proofs.Growth.{blocks_grow, moments_grow}
-use Rattle.hk_account.proofs.Moments.{moments-append}
+use Rattle.hk_station_wire.proofs.Growth.{blocks_grow}
+use Rattle.hk_account.proofs.Moments.{moments-append, moments_grow}
 
 -- a moment whose look was made, behind others with one each
 module _ (block : Block) (more : List Moment) where
@@ -90,15 +92,6 @@ get_front [] ys n inside = absurd (omega (arith, inside))
 get_front (x ∷ xs) ys zero inside = refl
 get_front (x ∷ xs) ys (suc n) inside = get_front xs ys n (omega (arith, inside))
 
-got_inside : {A : Type 0} (xs : List A) (n : ℕ) (x : A) → slice_get xs n ≡ Some x → n < length xs
-got_inside [] n x is = absurd (let no : None ≡ Some x = is in cc)
-got_inside (y ∷ xs) zero x is = omega arith
-got_inside (y ∷ xs) (suc n) x is = let rest : n < length xs = got_inside xs n x is in omega (arith, rest)
-
-one_or_none : {A : Type 0} (o : Option A) → (o ≡ None) ⊎ ((x : A) × (o ≡ Some x))
-one_or_none None = inl refl
-one_or_none (Some x) = inr (x, refl)
-
 -- what is seen behind a fault, and behind bytes without one
 seen_no_more : (limit : ℕ) (text rest : List ℕ) (fault : WireFault) → station_fault limit text ≡ Some fault → station_seen limit (text ++ rest) ≡ station_seen limit text
 seen_no_more limit text [] fault is = ap (station_seen limit) (append-nil text)
@@ -108,7 +101,7 @@ seen_no_more limit text (b ∷ rest) fault is =
 
 seen_behind : (limit : ℕ) (text rest : List ℕ) → station_fault limit text ≡ None → (more : List ℕ) × (station_seen limit (text ++ rest) ≡ text ++ more)
 seen_behind limit text [] none = ([], ap (station_seen limit) (append-nil text) ∙ seen_of-all (station_met limit) text none ∙ sym (append-nil text))
-seen_behind limit text (b ∷ rest) none = elim (one_or_none (station_met limit (text ++ b ∷ []))) [
+seen_behind limit text (b ∷ rest) none = elim (none_or_some (station_met limit (text ++ b ∷ []))) [
   | inl fine ↦
       let later = seen_behind limit (text ++ b ∷ []) rest (fault_of-none (station_met limit) text b none fine) in
       (b ∷ later.0, ap (station_seen limit) (sym (append_assoc text (b ∷ []) rest)) ∙ later.1 ∙ append_assoc text (b ∷ []) later.0)
@@ -193,7 +186,7 @@ module _ (rules : Rules) where
       } in
       let lines : HasLines rules (songs_in past) station h = record {
         lists = λ n block r at_block at_line.
-            let inside : n < length reported = got_inside reported n r at_line in
+            let inside : n < length reported = slice_get_within reported n r at_line in
             lists-reported past bs vs n block r
             (sym (ap (λ xs. slice_get xs n) blocks_are ∙ get_front bs (one.block ∷ later_blocks.0) n (omega (arith, inside, many))) ∙ at_block) at_line;
         never_fall = subst (Rise 0 (looks ++ v ∷ [])) (last_is (looks ++ v ∷ [])) (rise_last 0 to (looks ++ v ∷ []) rise);

@@ -1,5 +1,6 @@
 -- Looks one after another.
-use Rattle.std.proofs.Common.{◌≡◌, ℕ, List, [], ◌∷◌, ◌++◌, IsTrue, Option, None, Some, refl, sym, ◌∙◌, ap, subst, arith, append-nil, append_assoc, option_map}
+use Rattle.std.proofs.Common.{ℕ, List, [], ◌∷◌, ◌++◌, IsTrue, refl, sym, ◌∙◌, subst, arith}
+use Rattle.hk_base.proofs.Taking.{Wrote-append, Wrote-nothing}
 use Rattle.hk_spec_matching.proofs.Rising.{Rise-append}
 use Rattle.hk_block.specs.Looker.{LookerView, KnownBy, Looks, SameCatalogue}
 
@@ -9,22 +10,13 @@ KnownBy-append (v ∷ vs) [] a b c first second = second first
 KnownBy-append [] (w ∷ ws) a b c first second = second
 KnownBy-append (v ∷ vs) (w ∷ ws) a b c first second = second
 
-shown-append : (vs ws : List ℕ) (shown : Option (List ℕ))
-    → option_map (λ versions. versions ++ ws) (option_map (λ versions. versions ++ vs) shown) ≡ option_map (λ versions. versions ++ (vs ++ ws)) shown
-shown-append vs ws None = refl
-shown-append vs ws (Some t) = ap (λ versions. Some versions) (append_assoc t vs ws)
-
-shown-nil : (shown : Option (List ℕ)) → shown ≡ option_map (λ versions. versions ++ []) shown
-shown-nil None = refl
-shown-nil (Some t) = ap (λ versions. Some versions) (sym (append-nil t))
-
 -- no look, and nothing has changed
 pub Looks-nothing : (view : LookerView) → Looks [] view view
 Looks-nothing view = record {
   rise = omega arith;
   past = λ v songs known. known;
   known = λ known. known;
-  shown = shown-nil view.shown;
+  shown = Wrote-nothing view.shown;
   room = refl;
   home = refl;
   still = refl;
@@ -37,7 +29,7 @@ Looks-append vs ws a b c first second = record {
   rise = Rise-append a.at b.at c.at vs ws first.rise second.rise;
   past = λ v songs known. second.past v songs (first.past v songs known);
   known = KnownBy-append vs ws a b c first.known second.known;
-  shown = second.shown ∙ ap (option_map (λ versions. versions ++ ws)) first.shown ∙ shown-append vs ws a.shown;
+  shown = Wrote-append vs ws a.shown b.shown c.shown first.shown second.shown;
   room = second.room ∙ first.room;
   home = second.home ∙ first.home;
   still = second.still ∙ first.still;

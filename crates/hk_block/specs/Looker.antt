@@ -2,9 +2,9 @@
 use Rattle.std.specs.Prelude.{◌≡◌, ℕ, ◌*◌, List, [], ◌∷◌, ◌++◌, Bool, IsTrue, Option, Some, option_map}
 use Rattle.hk_base.specs.declared.plain.Match.{Match}
 use Rattle.hk_spec_matching.specs.Catalogue.{Songs, Edit, Limits, Rise}
-use Rattle.hk_spec_matching.specs.Matching.{Query, query_for, matches}
+use Rattle.hk_spec_matching.specs.Matching.{matches}
 use Rattle.hk_spec_matching.specs.Cost.{cost}
-use Rattle.hk_block.specs.Ring.{Ring}
+use Rattle.hk_block.specs.Ring.{Ring, query_of}
 
 -- an entry of a published list: an edit, or the end of a batch
 pub data Entry : Type 0 where
@@ -71,10 +71,6 @@ pub record Looks (answers : List ℕ) (old new : LookerView) : Type 0 where
   pub home : new.home ≡ old.home
   pub still : new.still ≡ old.still
   pub stays : IsTrue old.still → SameCatalogue old new
-
--- what is looked up of a ring: its prints
-abbrev pub query_of : Ring → Query
-query_of ring = query_for ring.last
 
 -- the matches of the ring's prints in songs
 abbrev pub matches_in : Ring → Songs → List Match

@@ -2,6 +2,8 @@
 use Rattle.std.specs.Prelude.{◌≡◌, ℕ, ◌-◌, ◌*◌, ◌%◌, ◌==◌, Bool, ◌&&◌, nat_le, if◌then◌else◌, List, [], ◌∷◌, ◌++◌, length, drop, IsTrue}
 use Rattle.hk_base.specs.declared.plain.Print.{Print}
 use Rattle.hk_spec_sound.specs.Windows.{windows}
+use Rattle.hk_spec_streams.specs.Blocks.{Setting, Block, block_at}
+use Rattle.hk_spec_matching.specs.Matching.{Query, query_for}
 
 -- how many prints a block has
 abbrev pub BLOCK_SIZE : ℕ
@@ -17,6 +19,10 @@ pub record Ring : Type 0 where
   pub count : ℕ
   pub hop : ℕ
 
+-- what is looked up of a ring: its prints
+abbrev pub query_of : Ring → Query
+query_of ring = query_for ring.last
+
 -- The ring has taken these prints: it has their number, and the last 256 of them. It need not store them for that.
 pub record HasLastPrints (ring : Ring) (prints : List Print) : Type 0 where
   pub count : ring.count ≡ length prints
@@ -28,6 +34,15 @@ is_full ring = nat_le BLOCK_SIZE ring.count
 -- where the block begins that ends with the last print
 abbrev pub first_word : Ring → ℕ
 first_word ring = ring.count - BLOCK_SIZE
+
+-- the block of segment n that ends with the last print
+abbrev pub block_in : ℕ → Ring → Block
+block_in n ring = block_at n (first_word ring) ring.last
+
+-- The ring cuts prints into blocks as this setting says.
+pub record IsFor (s : Setting) (ring : Ring) : Type 0 where
+  pub block_size : s.block_size ≡ BLOCK_SIZE
+  pub hop_is : s.hop ≡ ring.hop
 
 -- the last print completes a block
 abbrev pub completes_block : Ring → Bool

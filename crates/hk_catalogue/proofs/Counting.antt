@@ -19,7 +19,7 @@ words_of None = refl
 words_of (Some song) = refl
 
 -- the words of a slot, as the table and as the catalogue read them
-slot_words : (store : Store) (slot : ℕ) → words_in (slot_at (index_of store) slot) ≡ words_at store slot
+pub slot_words : (store : Store) (slot : ℕ) → words_in (slot_at (index_of store) slot) ≡ words_at store slot
 slot_words store slot = ap words_in (slot-indexed store slot) ∙ words_of (song_at store slot)
 
 slot_there : (store : Store) (slot : ℕ) → slot < length store.slots → slot < length (index_of store).slots

@@ -42,7 +42,8 @@ above-songs : (store : Store) (index : List (ℕ × ℕ)) (id : ℕ) → AreAbov
 above-songs store [] id above = tt
 above-songs store (e ∷ es) id above = (above.0, above-songs store es id above.1)
 
-rising-songs : (store : Store) (index : List (ℕ × ℕ)) → AreRising index → AreRising (songs_in store index)
+-- the ids of the songs rise as those of the index
+pub rising-songs : (store : Store) (index : List (ℕ × ℕ)) → AreRising index → AreRising (songs_in store index)
 rising-songs store [] rising = tt
 rising-songs store (e ∷ es) rising = (above-songs store es e.0 rising.0, rising-songs store es rising.1)
 

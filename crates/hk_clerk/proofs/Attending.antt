@@ -113,6 +113,7 @@ module _ {C P : Type 0} (source : sources.Ghosts C) (sink : sinks.Ghosts P) (rul
     taken = subst (λ bytes. Took bytes (source.left old.calls) (source.left new.calls)) (sym concludes.taken_is) took;
     written = concludes.text;
     replies = concludes.replies;
+    staged = concludes.staged;
     counted = concludes.counted;
     end = end;
     cause = λ held held'. (caused held held').cause;

@@ -95,12 +95,16 @@ module _ (rules : Rules) where
         let all = all_commands in
         subst (λ cs. Replies rules new_state cs told) (sym (ap (take (length told)) all.1 ∙ first_fit (commands (stream_of rules taken).used) all.0 (length told) told_all)) h.replied.fit
 
-    pub journal_is : desk.published ≡ (at_end (state_after rules new_state (commands (operator_seen rules.bytes (taken ++ rest))) told)).journal
-    journal_is =
+    stands : state_after rules new_state (commands (operator_seen rules.bytes (taken ++ rest))) told ≡ h.state
+    stands =
         let all = all_commands in
-        let same : state_after rules new_state (commands (operator_seen rules.bytes (taken ++ rest))) told ≡ h.state =
-        ap (λ cs. state_after rules new_state cs told) all.1 ∙ first_state rules new_state (commands (stream_of rules taken).used) all.0 told told_all ∙ h.replied.stands in
-        h.published ∙ sym (ap (λ (s : OperatorState). s.journal) same)
+        ap (λ cs. state_after rules new_state cs told) all.1 ∙ first_state rules new_state (commands (stream_of rules taken).used) all.0 told told_all ∙ h.replied.stands
+
+    pub journal_is : desk.published ≡ (at_end (state_after rules new_state (commands (operator_seen rules.bytes (taken ++ rest))) told)).journal
+    journal_is = h.published ∙ sym (ap (λ (s : OperatorState). s.journal) stands)
+
+    pub staged_is : desk.staged ≡ (state_after rules new_state (commands (operator_seen rules.bytes (taken ++ rest))) told).staged
+    staged_is = h.obeys.shelf.staged ∙ sym (ap (λ (s : OperatorState). s.staged) stands)
 
   -- All replies are whole.
   pub whole : (start written : Option (List ℕ)) (taken : List ℕ) (told : List What) (operator : Operator) (desk : Holding) (end : OpEnd) → HasDone rules taken told operator desk
@@ -121,6 +125,7 @@ module _ (rules : Rules) where
           whole = λ not_torn. refl;
           torn = λ torn. absurd (cc (torn, isnt));
         };
+        staged = subst (λ bytes. desk.staged ≡ (state_after rules new_state (commands (operator_seen rules.bytes bytes)) told).staged) same (staged_is taken [] told operator desk h);
         counted = (stream_of rules taken, h.state, h.obeys, sym (told_all taken [] told operator desk h));
       }
 
@@ -150,6 +155,7 @@ module _ (rules : Rules) where
               proper = front.3;
             };
           };
+          staged = staged_is taken rest (told ++ what ∷ []) operator desk h;
           counted = (stream_of rules taken, h.state, h.obeys, sym (told_all taken [] (told ++ what ∷ []) operator desk h));
         },
         refl,

@@ -11,7 +11,7 @@ use Rattle.hk_outside.specs.Doors.{Pair}
 use Rattle.hk_outside.specs.declared.door.Held.{Held}
 use Rattle.hk_operator.specs.Obeying.{IsObeying, new_stream}
 use Rattle.hk_publish.specs.Holding.{Holding, shelf_of}
-use Rattle.hk_clerk.specs.Course.{HasCounted}
+use Rattle.hk_clerk.specs.Course.{HasCounted, staged_by}
 use Rattle.hk_clerk.specs.declared.office.Office.{Office}
 
 module _ {C P : Type 0} (source : sources.Ghosts C) (sink : sinks.Ghosts P) where
@@ -24,11 +24,13 @@ module _ {C P : Type 0} (source : sources.Ghosts C) (sink : sinks.Ghosts P) wher
   }
 
   -- The clerk took bytes from the calls, did their whole commands one after another, and wrote the replies. What the desk has
-  -- published is what the replies publish. The end has its cause, and no failure was passed over.
+  -- published is what the replies publish, and what they left staged is staged still. The end has its cause, and no failure was passed
+  -- over.
   pub record HasObeyedAll (rules : Rules) (old new : Office C P) (desk : Holding) (o : Obeyed) : Type 0 where
     pub taken : Took o.taken (source.left old.calls) (source.left new.calls)
     pub written : Wrote (answers_text rules o) (sink.written old.replies) (sink.written new.replies)
     pub replies : HasReplies rules desk.published o
+    pub staged : desk.staged ≡ staged_by rules o
     pub counted : HasCounted rules new.operator desk (length o.replies)
     pub end : new.end ≡ Some o.end
     pub cause : (held held' : Held) → OperatorCauseOf rules (pair_of held old) (pair_of held' new) o o.end

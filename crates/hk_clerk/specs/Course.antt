@@ -9,9 +9,9 @@ use Rattle.hk_base.specs.declared.plain.WireFault.{WireFault}
 use Rattle.hk_spec_streams.specs.Operator.{commands, operator_fault}
 use Rattle.hk_spec_matching.specs.Catalogue.{Edit, Journal}
 use Rattle.hk_spec_settings.specs.Settings.{Rules}
-use Rattle.hk_spec_runs.specs.OperatorState.{OperatorState}
+use Rattle.hk_spec_runs.specs.OperatorState.{OperatorState, new_state, state_after}
 use Rattle.hk_spec_runs.specs.Replay.{OperatorStream}
-use Rattle.hk_spec_monitor.specs.Run.{Obeyed, HasReplies, replies_text, answers_text}
+use Rattle.hk_spec_monitor.specs.Run.{Obeyed, HasReplies, commands_heard, replies_text, answers_text}
 use Rattle.hk_operator.specs.Answering.{HasReplied, stream_of}
 use Rattle.hk_operator.specs.Obeying.{IsObeying}
 use Rattle.hk_operator.specs.declared.operator.Operator.{Operator}
@@ -26,6 +26,10 @@ abbrev pub journal_after : Journal → List Edit → What → Journal
 journal_after journal staged (whats.Published v) = journal ++ staged ∷ []
 journal_after journal staged whats.Done = journal
 journal_after journal staged (whats.Refused reason) = journal
+
+-- the edits that these commands and replies leave staged
+abbrev pub staged_by : Rules → Obeyed → List Edit
+staged_by rules o = (state_after rules new_state (commands_heard rules o) o.replies).staged
 
 -- The operator counts so many commands.
 abbrev pub HasCounted : Rules → Operator → Holding → ℕ → Type 0
@@ -62,6 +66,7 @@ module _ (rules : Rules) where
     pub taken_is : o.taken ≡ taken
     pub text : Wrote (answers_text rules o) start written
     pub replies : HasReplies rules desk.published o
+    pub staged : desk.staged ≡ staged_by rules o
     pub counted : HasCounted rules operator desk (length o.replies)
 
   -- the end is the fault of these bytes

@@ -7,4 +7,4 @@ mod form;
 mod range;
 
 pub use form::{allows_channels, allows_factor};
-pub use range::{BYTES, FLIPS, HOP, POSITIONS, Range, SEED, SONGS, STATIONS, VERSIONS};
+pub use range::Range;

@@ -1,51 +1,15 @@
 // Small streams by hand, served over memory against no songs. The expected lines are those of the worked examples.
-ghost use Rattle.std.specs.Prelude.{◌≡◌, ◌≤◌, ◌<◌, ◌+◌, [], Some, None, true, All, OnOk, length};
+ghost use Rattle.std.specs.Prelude.{◌≡◌, ◌≤◌, ◌<◌, ◌+◌, None, All, OnOk, length};
 ghost use Rattle.hk_station.specs.Hearing.{kept_end};
 
 use crate::{Seat, serve};
-use hk_base::{End, Failed, Flag, MemorySink, Print, Steps};
-use hk_block::{BlockRing, Looker, Scratch};
+use hk_base::{End, Failed, Flag, MemorySink, Print};
+use hk_block::{NoSongs, Scratch};
 use hk_outside::{Gate, MemoryGate, MemoryLink};
 use hk_station::Station;
 use std::alloc::Global;
 use std::sync::Wait;
-use std::sync::ledger::Ledger;
 use std::test::Fail;
-
-// No songs, at version 7.
-#[derive(Drop)]
-struct NoSongs {
-    block: [Print; 256],
-}
-
-impl Looker for NoSongs {
-    ghost looker = { λ s. record {
-      at = 7;
-      past = λ v. Some [];
-      songs = [];
-      room = 0;
-      shown = None;
-      shelf = None;
-      still = true;
-      home = None;
-    } };
-
-    #[tactic(auto, unfolding(hk_spec_matching::specs::Matching::matches))]
-    fn look<L: Ledger>(
-        &mut self,
-        ring: &BlockRing,
-        scratch: &mut Scratch,
-        steps: &mut Steps<L>,
-    ) -> u32 {
-        scratch.clear();
-        self.block = ring.prints();
-        7
-    }
-
-    fn now(&mut self) -> u32 {
-        7
-    }
-}
 
 type TestSeat = Seat<MemoryLink, MemorySink, NoSongs>;
 
@@ -89,6 +53,7 @@ fn add(
         return Err(Fail::from(Failed));
     }
     let view = NoSongs {
+        version: 7,
         block: [Print { word: 1, mask: 0 }; 256],
     };
     seats.push(Seat {

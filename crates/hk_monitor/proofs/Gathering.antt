@@ -7,12 +7,7 @@ use Rattle.hk_spec_monitor.proofs.Logs.{past_end}
 use Rattle.hk_loop.specs.Rows.{Each}
 use Rattle.hk_monitor.specs.Rows.{EachOf}
 
--- what stands in a list stands inside it, and inside it something stands
-pub inside_of : {A : Type 0} (xs : List A) (i : ℕ) (x : A) → slice_get xs i ≡ Some x → i < length xs
-inside_of [] i x at = past_end x (i < 0) at
-inside_of (y ∷ ys) zero x at = omega arith
-inside_of (y ∷ ys) (suc i) x at = let rest = inside_of ys i x at in omega (arith, rest)
-
+-- inside a list something stands
 pub entry : {A : Type 0} (xs : List A) (i : ℕ) → i < length xs → (x : A) × (slice_get xs i ≡ Some x)
 entry [] i inside = absurd (omega (arith, inside))
 entry (y ∷ ys) zero inside = (y, refl)

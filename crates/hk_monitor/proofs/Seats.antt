@@ -21,6 +21,7 @@ use Rattle.hk_station.specs.declared.station.Station.{Station}
 use Rattle.hk_loop.specs.declared.seat.Seat.{Seat}
 use Rattle.hk_loop.specs.Serving.{HasServed}
 use Rattle.hk_served.specs.Served.{DidInSeat, gate_of}
+use Rattle.hk_journal.proofs.Prefixes.{prefix_length}
 use Rattle.hk_publish.specs.Journals.{past_of_journal}
 use Rattle.hk_publish.specs.Known.{Known, looker_of, looker_home}
 use Rattle.hk_publish.proofs.Telling.{homes_tell}
@@ -87,5 +88,6 @@ module _ {K S : Type 0} (link : links.Ghosts K) (sink : sinks.Ghosts S) where
         stayed = subst₂ (λ l g. StayedBut (devices_of link sink first) (pair l g) h.end) (sym closes.link) (sym closes.log) did.stayed;
         count = ap lines_written closes.station ∙ did.count;
         version = ap version_of closes.station ∙ did.version;
+        within = omega (arith, last_look, prefix_length mid.view.seen now.view.seen closes.looks.grows);
         shown = shown_is nothing;
       }

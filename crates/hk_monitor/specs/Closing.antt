@@ -23,7 +23,8 @@ module _ {K S : Type 0} where
     pub station : new.station ≡ old.station
     pub looks : LooksAgain published old.view new.view
 
-  -- So have all of a worker, and its gate stays.
+  -- So have all of a worker, and its gate and its scratch stay.
   pub record ClosesSeats {G : Type 0} (published : Journal) (old new : Crewman K S G Known) : Type 0 where
     pub gate : new.gate ≡ old.gate
+    pub scratch : new.scratch ≡ old.scratch
     pub seats : Each (ClosesSeat published) old.seats.items new.seats.items

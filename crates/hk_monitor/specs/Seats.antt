@@ -1,5 +1,5 @@
 -- A seat before and after a run.
-use Rattle.std.specs.Prelude.{◌≡◌, ℕ, List, [], ◌∷◌, ◌++◌, length, Some}
+use Rattle.std.specs.Prelude.{◌≡◌, ℕ, ◌≤◌, List, [], ◌∷◌, ◌++◌, length, Some}
 use mathlib.Core.List.{IsPrefix}
 use Rattle.hk_base.specs.Devices.{Took, Wrote}
 use Rattle.hk_base.specs.declared.sink.Sink as sinks
@@ -35,7 +35,8 @@ module _ {K S : Type 0} (link : links.Ghosts K) (sink : sinks.Ghosts S) where
   }
 
   -- What a station did in its seat: the bytes that its link gave, its log, its looks and then the closing look, and its end with the
-  -- cause. Its lines list the matches in the journal's versions, and over the last of them in those that its reading saw.
+  -- cause. Its lines list the matches in the journal's versions, and over the last of them in those that its reading saw. No look is over
+  -- the closing one.
   pub record DidInRun (rules : Rules) (journal : Journal) (gate gate' : ℕ) (first now : Seat K S Known) (h : Heard) : Type 0 where
     pub number : station_number now.station ≡ station_number first.station
     pub taken : Took h.taken (link.left first.link) (link.left now.link)
@@ -47,4 +48,5 @@ module _ {K S : Type 0} (link : links.Ghosts K) (sink : sinks.Ghosts S) where
     pub stayed : StayedBut (devices_of first) (devices_of now) h.end
     pub count : lines_written now.station ≡ length h.reported
     pub version : version_of now.station ≡ last_version h.looks
+    pub within : last_version h.looks ≤ length now.view.seen
     pub shown : now.view.shown ≡ h.looks ++ length now.view.seen ∷ []

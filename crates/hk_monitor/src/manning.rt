@@ -17,7 +17,8 @@ impl<K: Link, S: Sink, G: Gate<Link = K>, V: Looker> Duty for Crewman<K, S, G, V
         × All (λ seat. (V.looker seat.view).room ≤ w.scratch.room) w.seats.items };
 
     ghost has_done = { λ w w'. Each (HasServed K.Link S.Sink V.Looker (G.faults w.gate) (G.faults w'.gate)) w.seats.items w'.seats.items
-        × GateCounts (G.faults w.gate) (G.faults w'.gate) w'.seats.items };
+        × GateCounts (G.faults w.gate) (G.faults w'.gate) w'.seats.items
+        × (w'.scratch.room ≡ w.scratch.room) };
 
     fn run<R: Wait>(&mut self, rt: &R) {
         serve(rt, &mut self.seats, &mut self.gate, &mut self.scratch)

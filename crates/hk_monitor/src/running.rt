@@ -34,6 +34,7 @@ pub fn run_monitor<D: Door, R: Threads + Wait + Clone + Send + Sync + Drop>(
     ensures ran { (rules : Rules) → EachSeat (λ seat. IsHearing rules seat.station unheard) crew.old.items → IsObeying rules clerk.old.operator (shelf_of desk.old) new_stream new_state
         → HasRun D.Link.Link D.Log.Sink D.Gate.faults D.Calls.Source D.Replies.Sink rules crew.old.items crew.new.items clerk.old clerk.new desk.new }
     ensures readings { Each (λ old new. Each (λ first now. HasSeenAll desk.new first.view now.view) old.seats.items new.seats.items) crew.old.items crew.new.items }
+    ensures rooms { Each (λ old new. new.scratch.room ≡ old.scratch.room) crew.old.items crew.new.items }
     ensures home { desk.new.home ≡ desk.old.home }
     ensures limits { desk.new.limits ≡ desk.old.limits }
     ensures within { OnOk result (NoneIsOver (length desk.new.published) crew.new.items) }

@@ -219,83 +219,59 @@ fn station<G: Gate<Link = MemoryLink>, R: Wait + Drop>(
 }
 
 // Whether a station ended in order, with one line that is either of these.
-fn has_line(station: Option<(End, &[u8])>, before: &[u8], after: &[u8]) -> bool {
+fn has_line(station: Option<(End, &[u8])>, lines: [&[u8]; 2]) -> bool {
     match station {
-        Some((End::Ended, text)) => text == before || text == after,
+        Some((End::Ended, text)) => text == lines[0] || text == lines[1],
         _ => false,
     }
 }
 
 const REPLIES: &[u8] = b"O 1 ok\nO 2 published 1\n";
 
-const BEFORE_0: &[u8] = b"S 0 B 0 G 0 W 0 V 0: none\n";
+// A line of station 0 and one of station 1, before the publish and after it.
+const LINES_0: [&[u8]; 2] = [
+    b"S 0 B 0 G 0 W 0 V 0: none\n",
+    b"S 0 B 0 G 0 W 0 V 1: 7@0~0\n",
+];
 
-const AFTER_0: &[u8] = b"S 0 B 0 G 0 W 0 V 1: 7@0~0\n";
-
-const BEFORE_1: &[u8] = b"S 1 B 0 G 0 W 0 V 0: none\n";
-
-const AFTER_1: &[u8] = b"S 1 B 0 G 0 W 0 V 1: 7@0~0\n";
-
-#[test]
-fn station_0_waits_for_the_line_of_station_1_that_waits_for_the_publish(
-    rt: HostRuntime,
-) -> Result<(), Fail> {
-    let published = Flag::new(rt.alloc())?;
-    let written = Flag::new(rt.alloc())?;
-    let late = late_post(rt.alloc(), 1, &published, &written)?;
-    let early = early_post(rt.alloc(), 0, &written)?;
-    let replies = raising(rt.alloc(), &published, b"published 1")?;
-    let clerk = office(rt.alloc(), operator_stream(rt.alloc())?, replies)?;
-    let Ok((mut desk, readings)) = start(&&rt, rt.alloc(), 2, 256, 2, 2) else {
-        panic!(rt; "no memory");
-    };
-    let finished = run_two::<MemoryDoor, &HostRuntime>(
-        &&rt,
-        rt.alloc(),
-        &mut desk,
-        readings,
-        late,
-        early,
-        clerk,
-    );
-    desk.close(&&rt);
-    let finished = finished?;
-    assert_eq!(rt; finished.answer, Ok(()));
-    assert!(rt; has_line(station(&finished.crew, 0), BEFORE_1, AFTER_1));
-    assert!(rt; has_line(station(&finished.crew, 1), BEFORE_0, AFTER_0));
-    assert_eq!(rt; finished.clerk.end, Some(OpEnd::Ended));
-    assert_eq!(rt; finished.clerk.replies.written(), REPLIES);
-    Ok(())
-}
+const LINES_1: [&[u8]; 2] = [
+    b"S 1 B 0 G 0 W 0 V 0: none\n",
+    b"S 1 B 0 G 0 W 0 V 1: 7@0~0\n",
+];
 
 #[test]
-fn station_1_waits_for_the_line_of_station_0_that_waits_for_the_publish(
+fn each_station_waits_for_the_line_of_the_other_that_waits_for_the_publish(
     rt: HostRuntime,
 ) -> Result<(), Fail> {
-    let published = Flag::new(rt.alloc())?;
-    let written = Flag::new(rt.alloc())?;
-    let late = late_post(rt.alloc(), 0, &published, &written)?;
-    let early = early_post(rt.alloc(), 1, &written)?;
-    let replies = raising(rt.alloc(), &published, b"published 1")?;
-    let clerk = office(rt.alloc(), operator_stream(rt.alloc())?, replies)?;
-    let Ok((mut desk, readings)) = start(&&rt, rt.alloc(), 2, 256, 2, 2) else {
-        panic!(rt; "no memory");
-    };
-    let finished = run_two::<MemoryDoor, &HostRuntime>(
-        &&rt,
-        rt.alloc(),
-        &mut desk,
-        readings,
-        late,
-        early,
-        clerk,
-    );
-    desk.close(&&rt);
-    let finished = finished?;
-    assert_eq!(rt; finished.answer, Ok(()));
-    assert!(rt; has_line(station(&finished.crew, 0), BEFORE_0, AFTER_0));
-    assert!(rt; has_line(station(&finished.crew, 1), BEFORE_1, AFTER_1));
-    assert_eq!(rt; finished.clerk.end, Some(OpEnd::Ended));
-    assert_eq!(rt; finished.clerk.replies.written(), REPLIES);
+    for (late, early, late_lines, early_lines) in [
+        (1, 0, LINES_1, LINES_0),
+        (0, 1, LINES_0, LINES_1),
+    ] {
+        let published = Flag::new(rt.alloc())?;
+        let written = Flag::new(rt.alloc())?;
+        let late = late_post(rt.alloc(), late, &published, &written)?;
+        let early = early_post(rt.alloc(), early, &written)?;
+        let replies = raising(rt.alloc(), &published, b"published 1")?;
+        let clerk = office(rt.alloc(), operator_stream(rt.alloc())?, replies)?;
+        let Ok((mut desk, readings)) = start(&&rt, rt.alloc(), 2, 256, 2, 2) else {
+            panic!(rt; "no memory");
+        };
+        let finished = run_two::<MemoryDoor, &HostRuntime>(
+            &&rt,
+            rt.alloc(),
+            &mut desk,
+            readings,
+            late,
+            early,
+            clerk,
+        );
+        desk.close(&&rt);
+        let finished = finished?;
+        assert_eq!(rt; finished.answer, Ok(()));
+        assert!(rt; has_line(station(&finished.crew, 0), late_lines));
+        assert!(rt; has_line(station(&finished.crew, 1), early_lines));
+        assert_eq!(rt; finished.clerk.end, Some(OpEnd::Ended));
+        assert_eq!(rt; finished.clerk.replies.written(), REPLIES);
+    }
     Ok(())
 }

@@ -1,5 +1,5 @@
 -- A run over what a door has handed out, when all is back.
-use Rattle.std.proofs.Common.{◌≡◌, ◌∙◌, ◌+◌, ◌%◌, ◌≤◌, ◌<◌, ℕ, true, List, [], ◌∷◌, ◌++◌, length, map, Some, inl, inr, refl, sym, ap, subst, subst₂, arith, slice_index_or}
+use Rattle.std.proofs.Common.{◌≡◌, ◌∙◌, ◌+◌, ◌%◌, ◌≤◌, ◌<◌, ℕ, true, List, [], ◌∷◌, ◌++◌, length, map, Some, inl, inr, refl, sym, ap, subst, subst₂, arith}
 use Rattle.std.specs.Prelude.{slice_get, is_some}
 use Rattle.std.specs.List.{All, enumerate_from}
 use Rattle.std.specs.Option.{option_map}
@@ -7,7 +7,7 @@ use Rattle.std.proofs.Math.ListN.{length-map}
 use Rattle.std.proofs.lemmas.Bool.Decides.{leb_tells}
 use mathlib.Core.List.{IsPrefix}
 use Rattle.std.proofs.lemmas.Option.{slice_get-get_or, slice_get-map, slice_get_within}
-use Rattle.hk_base.specs.Devices.{Took, Wrote}
+use Rattle.hk_base.specs.Devices.{Took, Wrote, IsNothing}
 use Rattle.hk_base.specs.declared.sink.Sink as sinks
 use Rattle.hk_base.specs.declared.source.Source as sources
 use Rattle.hk_spec_monitor.proofs.Legal.{some_of}
@@ -32,6 +32,7 @@ use Rattle.hk_clerk.specs.declared.office.Office.{Office}
 use Rattle.hk_clerk.specs.Clerks.{pair_of}
 use Rattle.hk_monitor.specs.Crew.{run_of}
 use Rattle.hk_monitor.specs.Seats.{DidInRun, HasSeenAll, devices_of}
+use Rattle.hk_monitor.proofs.Gathering.{entry}
 use Rattle.hk_opening.specs.Handing.{StationsAreBack, GatesAreBack, SameDoor}
 use Rattle.hk_seating.specs.Seating.{seats_of, AreOf}
 use Rattle.hk_seating.proofs.Facts.{at_place, parts_of, length_seats}
@@ -48,11 +49,6 @@ use Rattle.hk_monitor_top.specs.declared.ready.Rows.{Rows}
 use Rattle.hk_monitor_top.proofs.Carrying.{cause_carries, stayed_carries, operator_cause_carries, operator_stayed_carries}
 use Rattle.hk_monitor_top.proofs.Concluding.{ends_are, none_ahead}
 use Rattle.hk_monitor_top.proofs.InOrder.{ends_in_order}
-
--- what stands at a place of a list that is long enough
-pub at : {A : Type 0} (xs : List A) (n : ℕ) → n < length xs → (x : A) × (slice_get xs n ≡ Some x)
-at [] n inside = absurd (omega (arith, inside))
-at (x ∷ xs) n inside = (slice_index_or (x ∷ xs) n x, slice_get-get_or (x ∷ xs) n x inside)
 
 -- What stands at a place of a list stands there of what it shows.
 shown_at : {A B : Type 0} (f : A → B) (xs : List A) (ys : List B) (n : ℕ) (x : A) → ys ≡ map f xs → slice_get xs n ≡ Some x → slice_get ys n ≡ Some (f x)
@@ -110,12 +106,12 @@ module _ {K S G C P : Type 0} (link : links.Ghosts K) (sink : sinks.Ghosts S) (f
   of : (n : ℕ) (h : Heard) → slice_get ran.heard n ≡ Some h → Of n h
   of n h at_h =
       let inside : n < plan.stations = omega (arith, slice_get_within ran.heard n h at_h, heard_many) in
-      let first = at firsts n (omega (arith, inside, firsts_many)) in
-      let now = at ran.nows n (omega (arith, inside, nows_many)) in
+      let first = entry firsts n (omega (arith, inside, firsts_many)) in
+      let now = entry ran.nows n (omega (arith, inside, nows_many)) in
       let some = fits.some_worker in
       let worker : n % plan.workers < plan.workers = omega (arith, some) in
-      let gate = at rows.gates.items (n % plan.workers) (omega (arith, worker, worker_each)) in
-      let gate' = at rows'.gates.items (n % plan.workers) (omega (arith, worker, gates_many)) in
+      let gate = entry rows.gates.items (n % plan.workers) (omega (arith, worker, worker_each)) in
+      let gate' = entry rows'.gates.items (n % plan.workers) (omega (arith, worker, gates_many)) in
       record {
         first = first.0;
         now = now.0;
@@ -134,7 +130,7 @@ module _ {K S G C P : Type 0} (link : links.Ghosts K) (sink : sinks.Ghosts S) (f
   -- all stations are over
   pub all_over : All (λ station. is_some (kept_end station) ≡ true) rows'.stations.items
   all_over k d inside =
-      let h = at ran.heard k (omega (arith, inside, stations_many', heard_many)) in
+      let h = entry ran.heard k (omega (arith, inside, stations_many', heard_many)) in
       let it = of k h.0 h.1 in
       let here = shown_at (λ seat. seat.station) ran.nows rows'.stations.items k it.now ran.parts.stations_are it.at_now in
       let same = some_of _ _ (sym here ∙ slice_get-get_or rows'.stations.items k d inside) in
@@ -196,8 +192,8 @@ module _ {K S G C P : Type 0} (link : links.Ghosts K) (sink : sinks.Ghosts S) (f
             stayed_carries (rules_by plan) (devices_of link sink it.first) (devices_of link sink it.now) (before.stations n) (new.stations n)
             (gives n h it) (gives' n h it) (takes n h it) (takes' n h it) h.end it.did.stayed;
         gates = λ w inside none.
-            let gate = at rows.gates.items w (omega (arith, inside, worker_each)) in
-            let gate' = at rows'.gates.items w (omega (arith, inside, gates_many)) in
+            let gate = entry rows.gates.items w (omega (arith, inside, worker_each)) in
+            let gate' = entry rows'.gates.items w (omega (arith, inside, gates_many)) in
             gates_back.told w gate'.0 gate'.1
             ∙ ran.ran.gates_stay w gate.0 gate'.0 gate.1 gate'.1 (λ n h at_h is. none n h at_h (subst (λ (k : ℕ). n % k ≡ w) worker_each is))
             ∙ opened.gates.told w gate.0 gate.1;
@@ -211,21 +207,27 @@ module _ {K S G C P : Type 0} (link : links.Ghosts K) (sink : sinks.Ghosts S) (f
       is_at_door = record {
         count = heard_many;
         links = λ n h at_h. let it = of n h at_h in subst₂ (λ (t t' : Told). Took h.taken t.bytes t'.bytes) (gives n h it) (gives' n h it) it.did.taken;
+        fresh_logs = λ n h at_h. let it = of n h at_h in
+            subst (λ (t : Told). IsNothing t.bytes) (takes n h it)
+            (opened.stations.log_empty n (it.first.link, it.first.log) (shown_at (λ seat. (seat.link, seat.log)) firsts rows.pairs.items n it.first parts.pairs_are it.at_first));
         logs = λ n h at_h. let it = of n h at_h in
             subst (λ (k : ℕ). Wrote (log_text (rules_by plan) k h) (before.stations n).takes.bytes (new.stations n).takes.bytes) (number_of n h it)
             (subst₂ (λ (t t' : Told). Wrote (log_text (rules_by plan) (station_number it.first.station) h) t.bytes t'.bytes) (takes n h it) (takes' n h it) it.did.log);
         calls = subst₂ (λ (t t' : Told). Took ran.operator.taken t.bytes t'.bytes) asks (sym operator_back.calls_told) ran.ran.clerk_did.taken;
+        fresh_replies = subst (λ (t : Told). IsNothing t.bytes) opened.operator.replies_told opened.operator.replies_empty;
         replies = subst₂ (λ (t t' : Told). Wrote (answers_text (rules_by plan) ran.operator) t.bytes t'.bytes) answers (sym operator_back.replies_told) ran.ran.clerk_did.written;
       }
 
-      was_used : WasUsed (setup_by plan) new
+      was_used : WasUsed (setup_by plan) before new
       was_used = record {
         start = same.start ∙ opened.start;
         plan = same.plan ∙ opened.plan_is;
         calls = same.calls ∙ opened.calls;
-        stations = λ n inside. let pair = at rows'.pairs.items n (omega (arith, inside, pairs_many)) in stations_back.back n pair.0 pair.1;
+        stations = λ n inside. let pair = entry rows'.pairs.items n (omega (arith, inside, pairs_many)) in stations_back.back n pair.0 pair.1;
         operator = operator_back.back;
-        gates = λ w inside. let gate = at rows'.gates.items w (omega (arith, inside, gates_many)) in gates_back.back w gate.0 gate.1;
+        gates = λ w inside. let gate = entry rows'.gates.items w (omega (arith, inside, gates_many)) in gates_back.back w gate.0 gate.1;
+        other_stations = λ n more. stations_back.others n (omega (arith, more, pairs_many)) ∙ opened.stations.others n (omega (arith, more, full.pair_each));
+        other_gates = λ w more. gates_back.others w (omega (arith, more, gates_many)) ∙ opened.gates.others w (omega (arith, more, worker_each));
       }
 
       reading_of : (n : ℕ) (h : Heard) (it : Of n h) (reading : Known) → slice_get rows'.readings.items n ≡ Some reading → it.now.view ≡ reading
@@ -234,7 +236,7 @@ module _ {K S G C P : Type 0} (link : links.Ghosts K) (sink : sinks.Ghosts S) (f
 
       each_reading : (P : Known → Type 0) → ((n : ℕ) (h : Heard) (it : Of n h) → P it.now.view) → All P rows'.readings.items
       each_reading P of_each k d inside =
-          let h = at ran.heard k (omega (arith, inside, readings_many, heard_many)) in
+          let h = entry ran.heard k (omega (arith, inside, readings_many, heard_many)) in
           let it = of k h.0 h.1 in
           subst P (reading_of k h.0 it _ (slice_get-get_or rows'.readings.items k d inside)) (of_each k h.0 it)
 
@@ -242,16 +244,19 @@ module _ {K S G C P : Type 0} (link : links.Ghosts K) (sink : sinks.Ghosts S) (f
       first_reading n h it = at_place (λ reading. reading ≡ new_known desk.home (limits_by plan)) rows.readings.items n it.first.view
           (shown_at (λ seat. seat.view) firsts rows.readings.items n it.first parts.views_are it.at_first) start.readings_are
 
-      keeps : KeepsRun (limits_by plan) run desk' rows'.readings.items
+      keeps : KeepsRun (rules_by plan) run desk' rows'.readings.items
       keeps = record {
         desk_limits = limits ∙ ap (λ (d : Holding). d.limits) start.desk_is;
         journal = refl;
+        staged = ran.ran.clerk_did.staged;
         one_start = each_reading (λ reading. reading.home ≡ desk'.home) (λ n h it. it.seen.home ∙ ap (λ (r : Known). r.home) (first_reading n h it) ∙ sym home);
         limits_are = each_reading (λ reading. reading.limits ≡ limits_by plan) (λ n h it. it.seen.limits ∙ ap (λ (r : Known). r.limits) (first_reading n h it));
         one_each = readings_many ∙ sym heard_many;
         seen = each_reading (λ reading. IsPrefix desk'.published reading.seen) (λ n h it. it.seen.seen);
         looks = λ n h at_h reading at_r. let it = of n h at_h in
             subst (λ (r : Known). r.shown ≡ h.looks ++ length r.seen ∷ []) (reading_of n h it reading at_r) it.did.shown;
+        within = λ n h at_h reading at_r. let it = of n h at_h in
+            subst (λ (r : Known). last_version h.looks ≤ length r.seen) (reading_of n h it reading at_r) it.did.within;
       }
 
       pub has_monitored : HasMonitored (setup_by plan) before new desk' rows'.readings.items run
@@ -264,7 +269,7 @@ module _ {K S G C P : Type 0} (link : links.Ghosts K) (sink : sinks.Ghosts S) (f
         replies = ran.ran.clerk_did.replies;
         fences = λ n h at_h. (of n h at_h).did.fences;
         one_history = λ none. ran.ran.one_history (λ k d inside.
-            let h = at ran.heard k (omega (arith, inside, nows_many, heard_many)) in
+            let h = entry ran.heard k (omega (arith, inside, nows_many, heard_many)) in
             let it = of k h.0 h.1 in
             let least = none_ahead (length desk'.published) 0 ran.heard none k h.0 h.1 in
             subst (λ (seat : Seat K S Known). version_of seat.station ≤ length desk'.published) (some_of it.now _ (sym it.at_now ∙ slice_get-get_or ran.nows k d inside))
@@ -277,12 +282,12 @@ module _ {K S G C P : Type 0} (link : links.Ghosts K) (sink : sinks.Ghosts S) (f
       pub has_all : HasAll before → HasAll new
       has_all all = record {
         stations = λ n. elim (leb_tells plan.stations n) [
-          | inl more ↦ λ out. all.stations n (ap (λ (p : Pair). p.held) (sym (stations_back.others n (omega (arith, more.1, pairs_many)) ∙ opened.stations.others n (omega (arith, more.1, full.pair_each)))) ∙ out)
+          | inl more ↦ λ out. all.stations n (ap (λ (p : Pair). p.held) (sym (was_used.other_stations n more.1)) ∙ out)
           | inr less ↦ λ out. let back = was_used.stations n less.1 in cc (back, out)
         ];
         operator = λ out. let back = was_used.operator in cc (back, out);
         gates = λ w. elim (leb_tells plan.workers w) [
-          | inl more ↦ λ out. all.gates w (ap (λ (g : HeldGate). g.held) (sym (gates_back.others w (omega (arith, more.1, gates_many)) ∙ opened.gates.others w (omega (arith, more.1, worker_each)))) ∙ out)
+          | inl more ↦ λ out. all.gates w (ap (λ (g : HeldGate). g.held) (sym (was_used.other_gates w more.1)) ∙ out)
           | inr less ↦ λ out. let back = was_used.gates w less.1 in cc (back, out)
         ];
       }

@@ -1,14 +1,14 @@
 -- What a status says.
-use Rattle.std.proofs.Common.{◌≡◌, ◌≢◌, ◌⊎◌, ℕ, Bool, true, false, cond, List, [], ◌∷◌, Option, Some, Err, inl, inr, refl, sym, subst, arith, append-nil, is_some}
+use Rattle.std.proofs.Common.{◌≡◌, ◌≢◌, ◌⊎◌, ℕ, Bool, true, false, cond, List, Option, Some, Err, inl, inr, refl, sym, subst, arith, is_some}
 use Rattle.std.specs.Option.{IfSome}
 use Rattle.hk_outside.specs.Doors.{Doorway, Planned, IfDoorFailed, UnlessDoorFailed}
 use Rattle.hk_outside.specs.declared.door.DoorFault.{DoorFault}
 use Rattle.hk_outside.specs.declared.door.DoorFault.TheVariants as faults
+use Rattle.hk_outside.specs.declared.door.Start.TheVariants.{Started}
 use Rattle.hk_spec_monitor.specs.Run.{Run}
-use Rattle.hk_spec_monitor.specs.Devices.{planned, opening, granted, IsInOrder}
+use Rattle.hk_spec_monitor.specs.Devices.{planned, asks_in_order, granted, WasRefused}
 use Rattle.hk_spec_monitor.specs.Setup.{Setup}
 use Rattle.hk_spec_monitor.specs.Summary.{mismatch, all_ended, Concludes, ENDED, IN_DISORDER, WRITE_FAULT, MISMATCH}
-use Rattle.hk_opening.specs.Handing.{WasRefused}
 use Rattle.hk_monitor_top.specs.Statuses.{NO_MEMORY, DOOR_FAULT, IsRefusal, IsOfRun, code_of, refusal_by}
 use Rattle.hk_monitor_top.specs.Monitored.{WasAskedFor}
 
@@ -64,15 +64,11 @@ pub no_fault : (T : Type 0) (P : Type 0) (fault : DoorFault) → UnlessDoorFaile
 no_fault T P faults.Failed stays other = absurd (other refl)
 no_fault T P faults.NoMemory stays other = stays
 
-in_order : (setup : Setup) (door : Doorway) → WasRefused (opening setup) door → IsInOrder setup door.calls
-in_order setup door (inl h) = record { given = []; rest = opening setup; order = refl; made = inl h.1 }
-in_order setup door (inr h) = record { given = h.1.given; rest = h.1.ask ∷ h.1.later; order = h.1.order; made = inr (h.1.ask, h.1.later, refl, h.1.made) }
+pub asked_refused : (setup : Setup) (door : Doorway) → IfSome door.plan (λ told. told ≡ planned setup) → WasRefused (asks_in_order setup) door → WasAskedFor setup door
+asked_refused setup door plan refused = record { plan = plan; order = inr refused }
 
-pub asked_refused : (setup : Setup) (door : Doorway) → IfSome door.plan (λ told. told ≡ planned setup) → WasRefused (opening setup) door → WasAskedFor setup door
-asked_refused setup door plan refused = record { plan = plan; order = in_order setup door refused }
-
-pub asked_all : (setup : Setup) (door : Doorway) → door.plan ≡ Some (planned setup) → door.calls ≡ granted (opening setup) → WasAskedFor setup door
-asked_all setup door plan calls = record {
+pub asked_all : (setup : Setup) (door : Doorway) → door.start ≡ Started → door.plan ≡ Some (planned setup) → door.calls ≡ granted (asks_in_order setup) → WasAskedFor setup door
+asked_all setup door start plan calls = record {
   plan = subst (λ (p : Option Planned). IfSome p (λ told. told ≡ planned setup)) (sym plan) refl;
-  order = record { given = opening setup; rest = []; order = sym (append-nil (opening setup)); made = inl calls };
+  order = inl (start, calls);
 }

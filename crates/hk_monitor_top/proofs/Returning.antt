@@ -1,9 +1,20 @@
 -- What is back stays back.
-use Rattle.std.proofs.Common.{◌≡◌, ◌∙◌, ℕ, List, ap}
+use Rattle.std.proofs.Common.{◌≡◌, ◌∙◌, ℕ, List, sym, ap, subst}
+use Rattle.std.specs.List.{All}
 use Rattle.hk_base.specs.declared.sink.Sink as sinks
 use Rattle.hk_outside.specs.declared.link.Link as links
-use Rattle.hk_outside.specs.Doors.{Doorway}
+use Rattle.hk_outside.specs.Doors.{Doorway, held_at}
+use Rattle.hk_outside.specs.declared.door.Held.TheVariants.{Back}
+use Rattle.hk_spec_monitor.specs.Devices.{AllAreBack, WasUsed}
+use Rattle.hk_spec_monitor.specs.Setup.{Setup}
 use Rattle.hk_opening.specs.Handing.{StationsAreBack, GatesAreBack}
+use Rattle.hk_opening.proofs.Back.{IfGranted, opening_granted}
+
+-- all that opened a run is back after it
+pub used_back : (setup : Setup) (old door : Doorway) → WasUsed setup old door → AllAreBack door
+used_back setup old door used =
+    subst (All (IfGranted (λ ask. held_at ask door ≡ Back))) (sym used.calls)
+    (opening_granted (λ ask. held_at ask door ≡ Back) setup.rules.stations setup.workers used.stations used.operator used.gates)
 
 pub stations_stay : {K S : Type 0} (link : links.Ghosts K) (sink : sinks.Ghosts S) (pairs : List (K × S)) (old mid new : Doorway)
     → StationsAreBack link sink pairs old mid → ((n : ℕ) → new.stations n ≡ mid.stations n) → StationsAreBack link sink pairs old new

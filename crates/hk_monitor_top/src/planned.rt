@@ -3,7 +3,7 @@ ghost use Rattle.std.specs.Prelude.{◌≡◌, ◌≢◌, ◌⊎◌, None, Some}
 ghost use Rattle.hk_base.specs.Devices.{Rose};
 ghost use Rattle.hk_outside.specs.declared.door.Start.TheVariants as starts;
 ghost use Rattle.hk_spec_monitor.specs.Run.{Run};
-ghost use Rattle.hk_spec_monitor.specs.Devices.{IsUnused, HasAll};
+ghost use Rattle.hk_spec_monitor.specs.Devices.{asks_in_order, IsUnused, WasRefused, AllAreBack, HasAll};
 ghost use Rattle.hk_spec_monitor.specs.Summary.{Concludes};
 ghost use Rattle.hk_setup.specs.Plans.{PlanFits};
 ghost use Rattle.hk_monitor.specs.declared.crew.Kept.{Kept};
@@ -42,6 +42,8 @@ fn monitor_ready<R: Threads + Wait + Clone + Send + Sync + Drop, D: Door, K: Sin
     ensures door_fault { result.code ≡ DOOR_FAULT → Rose (D.doorway door.old).faults (D.doorway door.new).faults }
     ensures no_door_failed { result.code ≢ DOOR_FAULT → (D.doorway door.new).faults ≡ (D.doorway door.old).faults }
     ensures asked { WasAskedFor (setup_by plan.now) (D.doorway door.new) }
+    ensures refused_by_door { IsRefusal result.code → WasRefused (asks_in_order (setup_by plan.now)) (D.doorway door.new) }
+    ensures all_back { AllAreBack (D.doorway door.new) }
     ensures handed_back { HasAll (D.doorway door.old) → HasAll (D.doorway door.new) }
     ensures ran { IsOfRun result.code → (all : Kept R) × (run : Run) × (kept.new ≡ Some all)
         × HasMonitored (setup_by plan.now) (D.doorway door.old) (D.doorway door.new) all.desk all.readings.items run
@@ -81,6 +83,8 @@ pub fn monitor_plan<R: Threads + Wait + Clone + Send + Sync + Drop, D: Door, K: 
     ensures door_fault { result.code ≡ DOOR_FAULT → Rose (D.doorway door.old).faults (D.doorway door.new).faults }
     ensures no_door_failed { result.code ≢ DOOR_FAULT → (D.doorway door.new).faults ≡ (D.doorway door.old).faults }
     ensures asked { (D.doorway door.new).start ≢ starts.Unstarted → WasAskedFor (setup_by plan.now) (D.doorway door.new) }
+    ensures refused_by_door { IsRefusal result.code → (D.doorway door.new).start ≢ starts.Unstarted → WasRefused (asks_in_order (setup_by plan.now)) (D.doorway door.new) }
+    ensures all_back { (D.doorway door.new).start ≢ starts.Unstarted → AllAreBack (D.doorway door.new) }
     ensures handed_back { HasAll (D.doorway door.old) → HasAll (D.doorway door.new) }
     ensures ran { IsOfRun result.code → (all : Kept R) × (run : Run) × (kept.new ≡ Some all)
         × HasMonitored (setup_by plan.now) (D.doorway door.old) (D.doorway door.new) all.desk all.readings.items run

@@ -3,7 +3,7 @@ ghost use Rattle.std.specs.Prelude.{◌≡◌, ◌≢◌, ◌⊎◌, None, Some}
 ghost use Rattle.hk_base.specs.Devices.{Rose};
 ghost use Rattle.hk_outside.specs.declared.door.Start.TheVariants as starts;
 ghost use Rattle.hk_spec_monitor.specs.Run.{Run};
-ghost use Rattle.hk_spec_monitor.specs.Devices.{IsUnused, HasAll};
+ghost use Rattle.hk_spec_monitor.specs.Devices.{asks_in_order, IsUnused, WasRefused, AllAreBack, HasAll};
 ghost use Rattle.hk_spec_monitor.specs.Setup.{Setup, setup_asked};
 ghost use Rattle.hk_spec_monitor.specs.Summary.{Concludes, ENDED, IN_DISORDER, MISMATCH};
 ghost use Rattle.hk_monitor.specs.declared.crew.Kept.{Kept};
@@ -52,8 +52,12 @@ pub fn monitor_top<R: Threads + Wait + Clone + Send + Sync + Drop, D: Door, K: S
     ensures door_fault { result.code ≡ DOOR_FAULT → Rose (D.doorway door.old).faults (D.doorway door.new).faults }
     ensures no_door_failed { result.code ≢ DOOR_FAULT → (D.doorway door.new).faults ≡ (D.doorway door.old).faults }
 
-    // The door was asked for what the words ask for, in order, and has all its objects again.
+    // The door was asked for what the words ask for, in order, and has all that it handed out again, and every object where none was
+    // out before. Once it was started, nothing but its own refusal ends an opening.
     ensures asked { (D.doorway door.new).start ≢ starts.Unstarted → (setup : Setup) × (setup_asked words.now.items ≡ Some setup) × WasAskedFor setup (D.doorway door.new) }
+    ensures refused_by_door { IsRefusal result.code → (D.doorway door.new).start ≢ starts.Unstarted
+        → (setup : Setup) × (setup_asked words.now.items ≡ Some setup) × WasRefused (asks_in_order setup) (D.doorway door.new) }
+    ensures all_back { (D.doorway door.new).start ≢ starts.Unstarted → AllAreBack (D.doorway door.new) }
     ensures handed_back { HasAll (D.doorway door.old) → HasAll (D.doorway door.new) }
 
     // The run: each log has a line for each block, with exactly the matches of a published version, the replies fit, looks and

@@ -1,3 +1,4 @@
+pub mod Back
 pub mod Order
 pub mod Out
 pub mod Unused

@@ -8,8 +8,8 @@ use Rattle.hk_outside.specs.Doors.{Doorway, IsHandedOut, IsUnasked, gates_asked,
 use Rattle.hk_outside.specs.declared.door.Ask.{Ask}
 use Rattle.hk_outside.specs.declared.door.Ask.TheVariants as asks
 use Rattle.hk_outside.specs.declared.door.Call.{Call}
-use Rattle.hk_spec_monitor.specs.Devices.{granted}
-use Rattle.hk_opening.specs.Handing.{AskedFor, UpToRefused, refused}
+use Rattle.hk_spec_monitor.specs.Devices.{granted, refused, UpToRefused}
+use Rattle.hk_opening.specs.Handing.{AskedFor, until_refused}
 
 split_at : (a k n : ℕ) → k < n → (later : List ℕ) × (range_with_len a n ≡ range_with_len a k ++ (a + k) ∷ later)
 split_at a k zero lt = absurd (omega arith)
@@ -44,6 +44,13 @@ refused_next f n k calls now then_ lt before is =
       order = ap (map f) h.1 ∙ map-append f (range_with_len 0 k) ((0 + k) ∷ h.0) ∙ ap (λ x. map f (range_with_len 0 k) ++ f x ∷ map f h.0) e;
       made = is ∙ ap (λ (cs : List Call). cs ++ refused (f k)) before ∙ append_assoc calls (granted (map f (range_with_len 0 k))) (refused (f k));
     }
+
+-- so many were handed out, and the next one was refused
+pub until_next : (f : ℕ → Ask) (k many : ℕ) (calls now then_ : List Call) → many ≡ k → now ≡ calls ++ granted (map f (range_with_len 0 k)) → then_ ≡ now ++ refused (f k)
+    → then_ ≡ calls ++ until_refused f many
+until_next f k many calls now then_ count before is =
+    is ∙ ap (λ (cs : List Call). cs ++ refused (f k)) before ∙ append_assoc calls (granted (map f (range_with_len 0 k))) (refused (f k))
+    ∙ ap (λ (n : ℕ). calls ++ until_refused f n) (sym count)
 
 station_of : Ask → ℕ
 station_of (asks.Station n) = n

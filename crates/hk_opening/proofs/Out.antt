@@ -3,6 +3,7 @@ use Rattle.std.proofs.Common.{◌≡◌, ◌∙◌, ◌⊎◌, ◌+◌, ◌≤�
 use Rattle.std.specs.Prelude.{slice_get}
 use Rattle.std.specs.Option.{option_map_or}
 use Rattle.std.proofs.lemmas.List.{length-append}
+use Rattle.hk_base.specs.Devices.{IsNothing}
 use Rattle.hk_base.specs.declared.sink.Sink as sinks
 use Rattle.hk_outside.specs.declared.link.Link as links
 use Rattle.hk_outside.specs.Doors.{Doorway, IsHandedOut}
@@ -26,8 +27,9 @@ module _ {K S : Type 0} (link : links.Ghosts K) (sink : sinks.Ghosts S) where
       → IsHandedOut (asks.Station n) (asks.Station n) mid new
       → record { bytes = link.left pair.0; faults = link.faults pair.0 } ≡ (mid.stations n).gives
       → record { bytes = sink.written pair.1; faults = sink.faults pair.1 } ≡ (mid.stations n).takes
+      → IsNothing (sink.written pair.1)
       → StationsAreOut link sink (pairs ++ pair ∷ []) old new
-  station_more pairs pair old mid new n many before handed gives takes =
+  station_more pairs pair old mid new n many before handed gives takes empty =
       let inside : mid.stations n ≡ old.stations n = before.others n (omega (arith, many)) in
       record {
         out = λ m p got. elim (got_more pairs pair m p got) [
@@ -45,6 +47,10 @@ module _ {K S : Type 0} (link : links.Ghosts K) (sink : sinks.Ghosts S) where
           | inr h ↦
               subst (λ (q : K × S). record { bytes = sink.written q.1; faults = sink.faults q.1 } ≡ (old.stations m).takes) h.1
               (subst (λ k. record { bytes = sink.written pair.1; faults = sink.faults pair.1 } ≡ (old.stations k).takes) (sym (h.0 ∙ many)) (takes ∙ ap (λ q. q.takes) inside))
+        ];
+        log_empty = λ m p got. elim (got_more pairs pair m p got) [
+          | inl h ↦ before.log_empty m p h.1
+          | inr h ↦ subst (λ (q : K × S). IsNothing (sink.written q.1)) h.1 empty
         ];
         others = λ m le.
             let more : length pairs + 1 ≤ m = omega (arith, le, length-append pairs (pair ∷ [])) in

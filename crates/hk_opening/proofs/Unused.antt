@@ -1,13 +1,19 @@
 -- What was handed out is back, as it was.
 use Rattle.std.proofs.Common.{◌≡◌, ◌≢◌, ◌∙◌, ◌⊎◌, ℕ, ◌<◌, List, length, inl, inr, sym, ap, subst, arith}
+use Rattle.std.specs.List.{All}
 use Rattle.std.proofs.lemmas.Option.{slice_get_cases}
+use Rattle.std.proofs.lemmas.List.Elements.{All-weaker}
 use Rattle.hk_base.specs.declared.sink.Sink as sinks
 use Rattle.hk_outside.specs.declared.link.Link as links
-use Rattle.hk_outside.specs.Doors.{Doorway, Pair, HeldGate, SameObjects}
+use Rattle.hk_outside.specs.Doors.{Doorway, Pair, HeldGate, SameObjects, held_at}
+use Rattle.hk_outside.specs.declared.door.Ask.{Ask}
+use Rattle.hk_outside.specs.declared.door.Ask.TheVariants as asks
+use Rattle.hk_outside.specs.declared.door.Call.{Call}
 use Rattle.hk_outside.specs.declared.door.Held.{Held}
 use Rattle.hk_outside.specs.declared.door.Held.TheVariants.{Outside, Back}
-use Rattle.hk_spec_monitor.specs.Devices.{IsUnused, HasAll}
-use Rattle.hk_opening.specs.Handing.{StationsAreOut, GatesAreOut, StationsAreBack, GatesAreBack, OperatorIsUnused}
+use Rattle.hk_spec_monitor.specs.Devices.{IsUnused, AllAreBack, HasAll}
+use Rattle.hk_opening.specs.Handing.{StationsAreOut, GatesAreOut, StationsAreBack, GatesAreBack, OperatorIsUnused, IsAmong, OnlyTheseAreOut}
+use Rattle.hk_opening.proofs.Back.{IfGranted}
 
 -- an object is where it was, or back
 abbrev IsLet : Held → Held → Type 0
@@ -35,6 +41,12 @@ module _ {K S : Type 0} (link : links.Ghosts K) (sink : sinks.Ghosts S) (pairs :
     | inr h ↦ absurd (omega (arith, within, h.0))
   ]
 
+  pub stations_home : (old new : Doorway) → StationsAreBack link sink pairs old new → (n : ℕ) → n < length pairs → (new.stations n).held ≡ Back
+  stations_home old new back n within = elim (slice_get_cases pairs n).1 [
+    | inl h ↦ back.back n h.0 h.2
+    | inr h ↦ absurd (omega (arith, within, h.0))
+  ]
+
   station_unused : (old mid now new : Doorway) (n : ℕ) → StationsAreOut link sink pairs old mid → now.stations n ≡ mid.stations n → StationsAreBack link sink pairs now new
       → IsPairUnused (old.stations n) (new.stations n)
   station_unused old mid now new n out stays back = elim (slice_get_cases pairs n).1 [
@@ -52,6 +64,12 @@ module _ {G : Type 0} (faults : G → ℕ) (gates : List G) where
   pub gates_outside : (old new : Doorway) → GatesAreOut faults gates old new → (w : ℕ) → w < length gates → (new.gates w).held ≡ Outside
   gates_outside old new out w within = elim (slice_get_cases gates w).1 [
     | inl h ↦ out.out w h.0 h.2
+    | inr h ↦ absurd (omega (arith, within, h.0))
+  ]
+
+  pub gates_home : (old new : Doorway) → GatesAreBack faults gates old new → (w : ℕ) → w < length gates → (new.gates w).held ≡ Back
+  gates_home old new back w within = elim (slice_get_cases gates w).1 [
+    | inl h ↦ back.back w h.0 h.2
     | inr h ↦ absurd (omega (arith, within, h.0))
   ]
 
@@ -99,6 +117,16 @@ module _ {K S G : Type 0} (link : links.Ghosts K) (sink : sinks.Ghosts S) (fault
       replies = operator.takes;
       gates = λ w. (gate w).faults;
     }
+
+    home : (ask : Ask) → IsAmong (length pairs) (length gates) asked ask → held_at ask new ≡ Back
+    home (asks.Station n) within = stations_home link sink pairs closing new closed.stations_back n within
+    home asks.Operator back = ap (λ p. p.held) (closed.operator_is ∙ closed.operator_stays) ∙ back
+    home (asks.Gate w) within = ap (λ g. g.held) (closed.gates_stay w) ∙ gates_home faults gates asked closing closed.gates_back w within
+
+    pub all_back : OnlyTheseAreOut (length pairs) (length gates) asked → new.calls ≡ asked.calls → AllAreBack new
+    all_back only same =
+        subst (All (IfGranted (λ ask. held_at ask new ≡ Back))) (sym same)
+        (All-weaker (IfGranted (IsAmong (length pairs) (length gates) asked)) (IfGranted (λ ask. held_at ask new ≡ Back)) (λ (call : Call) among is. home call.ask (among is)) asked.calls only)
 
     pub has_all : HasAll old → HasAll new
     has_all before = record {

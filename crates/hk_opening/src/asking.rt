@@ -1,12 +1,12 @@
 // The calls that open a door, in order.
-ghost use Rattle.std.specs.Prelude.{◌≡◌, ◌≤◌, ℕ, [], ◌∷◌, map, Some, None, IfSome, vec_capacity, length, IfOk, OnOk, OnErr};
+ghost use Rattle.std.specs.Prelude.{◌≡◌, ◌≤◌, ℕ, [], ◌∷◌, ◌++◌, map, Some, None, IfSome, vec_capacity, length, IfOk, OnOk, OnErr};
 ghost use Rattle.std.specs.List.{range_with_len};
 ghost use Rattle.hk_base.specs.Devices.{Rose};
 ghost use Rattle.hk_outside.specs.Doors.{IfDoorFailed, UnlessDoorFailed, gates_asked, gates_given};
 ghost use Rattle.hk_outside.specs.declared.door.Ask.TheVariants as asks;
 ghost use Rattle.hk_outside.specs.declared.door.Start.TheVariants as starts;
 ghost use Rattle.hk_spec_monitor.specs.Devices.{granted};
-ghost use Rattle.hk_opening.specs.Handing.{AskedFor, StationsAreOut, GatesAreOut, OperatorIsOut, OperatorIsUnused, SameStart};
+ghost use Rattle.hk_opening.specs.Handing.{AskedFor, StationsAreOut, GatesAreOut, OperatorIsOut, OperatorIsUnused, OnlyTheseAreOut, SameStart, until_refused};
 
 use hk_outside::{Door, DoorFault};
 
@@ -22,6 +22,7 @@ pub fn open_stations<D: Door>(
     requires none { stations.old.items ≡ [] }
     requires room { count ≤ vec_capacity stations.old }
     ensures asked { AskedFor (map asks.Station (range_with_len 0 count)) result (D.doorway door.old).calls (D.doorway door.new).calls }
+    ensures last { OnErr result ((D.doorway door.new).calls ≡ (D.doorway door.old).calls ++ until_refused asks.Station (length stations.new.items)) }
     ensures start { SameStart (D.doorway door.old) (D.doorway door.new) }
     ensures out { StationsAreOut D.Link.Link D.Log.Sink stations.new.items (D.doorway door.old) (D.doorway door.new) }
     ensures few { length stations.new.items ≤ count }
@@ -49,6 +50,7 @@ fn open_gates<D: Door>(door: &mut D, count: u8, gates: &mut Vec<D::Gate>) -> Res
     requires none { gates.old.items ≡ [] }
     requires room { count ≤ vec_capacity gates.old }
     ensures asked { AskedFor (map asks.Gate (range_with_len 0 count)) result (D.doorway door.old).calls (D.doorway door.new).calls }
+    ensures last { OnErr result ((D.doorway door.new).calls ≡ (D.doorway door.old).calls ++ until_refused asks.Gate (length gates.new.items)) }
     ensures start { SameStart (D.doorway door.old) (D.doorway door.new) }
     ensures out { GatesAreOut D.Gate.faults gates.new.items (D.doorway door.old) (D.doorway door.new) }
     ensures few { length gates.new.items ≤ count }
@@ -88,6 +90,7 @@ pub fn open_rest<D: Door>(
     ensures all { OnOk result (length gates.new.items ≡ count) }
     ensures operator { IfOk result (λ pair. OperatorIsOut D.Calls.Source D.Replies.Sink pair (D.doorway door.old) (D.doorway door.new)) }
     ensures unused { OnErr result (OperatorIsUnused (D.doorway door.old) (D.doorway door.new)) }
+    ensures only { OnErr result ((n : ℕ) → (D.doorway door.old).calls ≡ granted (map asks.Station (range_with_len 0 n)) → OnlyTheseAreOut n (length gates.new.items) (D.doorway door.new)) }
     ensures stations { (n : ℕ) → (D.doorway door.new).stations n ≡ (D.doorway door.old).stations n }
     ensures cause { IfDoorFailed result (Rose (D.doorway door.old).faults (D.doorway door.new).faults) }
     ensures counts_failures { UnlessDoorFailed result ((D.doorway door.new).faults ≡ (D.doorway door.old).faults) }

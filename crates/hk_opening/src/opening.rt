@@ -3,8 +3,8 @@ ghost use Rattle.std.specs.Prelude.{◌≡◌, ◌≤◌, ℕ, [], Some, vec_cap
 ghost use Rattle.hk_base.specs.Devices.{Rose};
 ghost use Rattle.hk_outside.specs.Doors.{plan_of, IfDoorFailed, UnlessDoorFailed};
 ghost use Rattle.hk_outside.specs.declared.door.Start.TheVariants as starts;
-ghost use Rattle.hk_spec_monitor.specs.Devices.{granted, IsUnused, HasAll};
-ghost use Rattle.hk_opening.specs.Handing.{AskedFor, StationsAreOut, GatesAreOut, OperatorIsOut, OperatorIsUnused, SameStart, WasRefused, opening_of};
+ghost use Rattle.hk_spec_monitor.specs.Devices.{granted, IsUnused, AllAreBack, HasAll, WasRefused};
+ghost use Rattle.hk_opening.specs.Handing.{AskedFor, StationsAreOut, GatesAreOut, OperatorIsOut, OperatorIsUnused, OnlyTheseAreOut, SameStart, opening_of};
 
 use crate::asking::{open_rest, open_stations};
 use crate::returning::{return_gates, return_stations};
@@ -34,6 +34,7 @@ fn open_all<D: Door>(
     ensures all_gates { OnOk result (length gates.new.items ≡ plan.now.workers) }
     ensures operator { IfOk result (λ pair. OperatorIsOut D.Calls.Source D.Replies.Sink pair (D.doorway door.old) (D.doorway door.new)) }
     ensures unused { OnErr result (OperatorIsUnused (D.doorway door.old) (D.doorway door.new)) }
+    ensures only { OnErr result (OnlyTheseAreOut (length stations.new.items) (length gates.new.items) (D.doorway door.new)) }
     ensures cause { IfDoorFailed result (Rose (D.doorway door.old).faults (D.doorway door.new).faults) }
     ensures counts_failures { UnlessDoorFailed result ((D.doorway door.new).faults ≡ (D.doorway door.old).faults) }
 {
@@ -72,6 +73,7 @@ pub fn open<D: Door>(
     // Where the door refused, it was asked in order up to there, and all is back.
     ensures refused { OnErr result (WasRefused (opening_of (plan_of plan.now)) (D.doorway door.new)) }
     ensures unused { OnErr result (IsUnused (D.doorway door.old) (D.doorway door.new)) }
+    ensures all_back { OnErr result (AllAreBack (D.doorway door.new)) }
     ensures back { OnErr result (HasAll (D.doorway door.old) → HasAll (D.doorway door.new)) }
     ensures no_station { OnErr result (stations.new.items ≡ []) }
     ensures no_gate { OnErr result (gates.new.items ≡ []) }

@@ -59,21 +59,14 @@ fn door(alloc: Global, failing: &[u64]) -> Result<MemoryDoor, Fail>
     add(alloc, &mut stations, b"a")?;
     add(alloc, &mut stations, b"bc")?;
     add(alloc, &mut stations, b"def")?;
+    let bytes = Vec::from_slice(alloc, b"add")?;
+    let calls = MemorySource::new(bytes, Vec::new(alloc), Vec::new(alloc));
+    let replies = MemorySink::new(alloc, 8, Vec::new(alloc))?;
     let mut gates = Vec::new(alloc);
     gates.push(MemoryGate::new(Vec::new(alloc)))?;
     gates.push(MemoryGate::new(Vec::new(alloc)))?;
-    Ok(MemoryDoor::new(
-        alloc,
-        stations,
-        MemorySource::new(
-            Vec::from_slice(alloc, b"add")?,
-            Vec::new(alloc),
-            Vec::new(alloc),
-        ),
-        MemorySink::new(alloc, 8, Vec::new(alloc))?,
-        gates,
-        Vec::from_slice(alloc, failing)?,
-    )?)
+    let failing = Vec::from_slice(alloc, failing)?;
+    Ok(MemoryDoor::new(alloc, stations, calls, replies, gates, failing)?)
 }
 
 // The text of a log or of replies that were handed back, and "not back" where they weren't.

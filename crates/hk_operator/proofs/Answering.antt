@@ -1,5 +1,5 @@
 -- A publish by what the shelf did, and the replies one after another.
-use Rattle.std.proofs.Common.{◌≡◌, ◌⊎◌, ℕ, ◌+◌, List, [], ◌∷◌, ◌++◌, refl, sym, ◌∙◌, ap, subst, append-nil, length, Bool, true, false, Option, Some, None, option_map, inl, inr, cond, fold}
+use Rattle.std.proofs.Common.{◌≡◌, ◌⊎◌, ℕ, ◌+◌, List, [], ◌∷◌, ◌++◌, refl, sym, ◌∙◌, ap, subst, append-nil, length, Bool, true, false, Some, None, option_map, inl, inr, cond, fold}
 use Rattle.std.specs.Prelude.{is_some, nat_le}
 use Rattle.std.specs.Option.{option_map_or}
 use Rattle.std.proofs.lemmas.List.Sums.{fold-append}
@@ -16,6 +16,7 @@ use Rattle.hk_spec_streams.specs.Operator.{Command, Publish, operator_met, opera
 use Rattle.hk_spec_streams.proofs.Completed.{completed-more}
 use Rattle.hk_spec_streams.proofs.GrowingCommands.{commands-append}
 use Rattle.hk_spec_streams.proofs.NextFault.{by_bytes, seen_of-all, fault_of-none, fault_of-some, fault_of-stays}
+use Rattle.hk_spec_streams.proofs.Optional.{none_or_some, none_of}
 use Rattle.hk_spec_settings.specs.Settings.{Rules}
 use Rattle.hk_spec_runs.specs.OperatorState.{OperatorState, new_state, refusals, answer, IsReply, Replies, state_after, after}
 use Rattle.hk_spec_runs.specs.Replay.{OperatorStream}
@@ -24,15 +25,11 @@ use Rattle.hk_operator.specs.OnShelf.{IsOnShelf}
 use Rattle.hk_operator.specs.Obeying.{IsObeying, new_stream, stream_after, new_commands}
 use Rattle.hk_operator.specs.Answering.{is_full, HasPublished, Publishes, HasNoVersion, HasNoMemory, PublishesAreRepliedTo, HasReplied, RepliesBegin, RepliesGoOn, stream_of, UsesWhatIsSeen}
 use Rattle.hk_operator.specs.declared.operator.Operator.{Operator}
-use Rattle.hk_operator.proofs.CallsAfter.{maybe, over_stays, fault_ends, byte_used, commands_now, commands_by}
+use Rattle.hk_operator.proofs.CallsAfter.{over_stays, fault_ends, byte_used, commands_now, commands_by}
 use Rattle.hk_operator.proofs.Joining.{full_row, publish_refused, publish_obeyed}
 
 answer_by : ℕ → Bool → What
 answer_by n full = option_map_or (λ reason. Refused reason) (first_that_holds ((full, VersionsFull) ∷ [])) (Published n)
-
-none_of : {A : Type 0} (o : Option A) → is_some o ≡ false → o ≡ None
-none_of None is = refl
-none_of (Some x) is = cc
 
 module _ (rules : Rules) (view : ShelfView) (state : OperatorState) (at : IsOnShelf rules view state) where
   answer_is : (full : Bool) → is_full view ≡ full → answer rules state Publish ≡ answer_by (length state.journal + 1) full
@@ -72,12 +69,12 @@ publishes_are_replied_to rules operator operator_stream state view view' told h 
 -- The commands after a byte are those before, and the one that it ends.
 module _ (rules : Rules) (operator_stream : OperatorStream) (b : ℕ) where
   pub commands_grow : commands (stream_after rules operator_stream b).used ≡ commands operator_stream.used ++ new_commands rules operator_stream b
-  commands_grow = elim (maybe operator_stream.end) [
+  commands_grow = elim (none_or_some operator_stream.end) [
     | inr over ↦
         let stays : stream_after rules operator_stream b ≡ operator_stream = over_stays rules operator_stream b over.0 over.1 in
         let none : new_commands rules operator_stream b ≡ [] = commands_by rules operator_stream b operator_stream stays ∙ ap (λ o. cond (is_some o) [] (completed commands (operator_stream.used ++ b ∷ []))) over.1 in
         ap (λ (c : OperatorStream). commands c.used) stays ∙ sym (append-nil (commands operator_stream.used)) ∙ sym (ap (λ cs. commands operator_stream.used ++ cs) none)
-    | inl going ↦ elim (maybe (operator_met rules.bytes (operator_stream.used ++ b ∷ []))) [
+    | inl going ↦ elim (none_or_some (operator_met rules.bytes (operator_stream.used ++ b ∷ []))) [
       | inr fault ↦
           let ends : stream_after rules operator_stream b ≡ record { used = operator_stream.used; end = Some (op_ends.Wire fault.0) } = fault_ends rules operator_stream b fault.0 going fault.1 in
           let none : new_commands rules operator_stream b ≡ [] = commands_by rules operator_stream b _ ends in
@@ -137,7 +134,7 @@ module _ (rules : Rules) where
       Fails fault (ap (λ (c : OperatorStream). c.end) now ∙ ended) (ap (λ (c : OperatorStream). c.used) now ∙ used ∙ sym stays.1) stays.0
   step bytes b (Goes are none) =
       let next : stream_of rules (bytes ++ b ∷ []) ≡ stream_after rules (record { used = bytes; end = None }) b = stream_more bytes b ∙ ap (λ (c : OperatorStream). stream_after rules c b) are in
-      elim (maybe (operator_met rules.bytes (bytes ++ b ∷ []))) [
+      elim (none_or_some (operator_met rules.bytes (bytes ++ b ∷ []))) [
         | inl fine ↦ Goes (next ∙ byte_used rules (record { used = bytes; end = None }) b refl fine) (fault_of-none (operator_met rules.bytes) bytes b none fine)
         | inr fault ↦
             let meets = fault_of-some (operator_met rules.bytes) bytes b fault.0 none fault.1 in

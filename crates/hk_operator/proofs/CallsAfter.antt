@@ -1,6 +1,6 @@
 -- The stream after a byte, and the commands that it ends.
-use Rattle.std.proofs.Common.{◌≡◌, ℕ, inl, inr, List, [], ◌∷◌, ◌++◌, refl, ◌∙◌, ap, Option, Some, None, cond}
-use Rattle.std.specs.Prelude.{◌⊎◌, is_some}
+use Rattle.std.proofs.Common.{◌≡◌, ℕ, List, [], ◌∷◌, ◌++◌, refl, ◌∙◌, ap, Option, Some, None, cond}
+use Rattle.std.specs.Prelude.{is_some}
 use Rattle.std.specs.Option.{option_map_or}
 use Rattle.std.specs.List.{cons_option}
 use Rattle.hk_base.specs.declared.plain.OpEnd.{OpEnd}
@@ -18,10 +18,6 @@ use Rattle.hk_operator_wire.specs.Items.{last_command}
 use Rattle.hk_operator.specs.Obeying.{stream_after, new_commands, end_in, IsAnswered}
 use Rattle.hk_operator.specs.declared.done.Done.{Done}
 use Rattle.hk_operator.specs.declared.done.Done.TheVariants.{More, Reply, Publish as Published, Over}
-
-pub maybe : {A : Type 0} (o : Option A) → (o ≡ None) ⊎ ((x : A) × (o ≡ Some x))
-maybe None = inl refl
-maybe (Some x) = inr (x, refl)
 
 pub same_fault_in : (f g : WireFault) → items.Fault f ≡ items.Fault g → f ≡ g
 same_fault_in f g is = cc

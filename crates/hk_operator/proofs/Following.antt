@@ -12,6 +12,7 @@ use Rattle.hk_spec_streams.specs.Pieces.{completed, pieces_within}
 use Rattle.hk_spec_streams.specs.Grammar.{packets, ends_at_start}
 use Rattle.hk_spec_streams.specs.Operator.{Command, command_for, operator_grammar, operator_met, operator_fault, operator_wrong, commands}
 use Rattle.hk_spec_streams.proofs.GrowingCommands.{whole_command, commands-append}
+use Rattle.hk_spec_streams.proofs.Optional.{none_or_some}
 use Rattle.hk_spec_runs.specs.OperatorState.{OperatorState}
 use Rattle.hk_spec_settings.specs.Settings.{Rules}
 use Rattle.hk_spec_runs.specs.Replay.{OperatorStream, operator_end_of}
@@ -22,7 +23,7 @@ use Rattle.hk_operator_wire.specs.declared.item.OpItem.TheVariants as items
 use Rattle.hk_operator_wire.specs.declared.item.Part.{Part}
 use Rattle.hk_operator_wire.specs.declared.item.Part.TheVariants as parts
 use Rattle.hk_operator_wire.specs.Items.{last_command, item_of, op_item_at, brought, is_whole_command, part_of, ends}
-use Rattle.hk_operator_wire.specs.Taken.{HasTaken, IsInOrder, Pushes, limit_of, fault_met}
+use Rattle.hk_operator_wire.specs.Taken.{HasTaken, IsGoodSoFar, Pushes, limit_of, fault_met}
 use Rattle.hk_operator_wire.proofs.Ending.{part-joined, ends-joined, joined-no_fault}
 use Rattle.hk_operator_wire.proofs.Reading.{next_bytes, last_command-next, in_hello, hello_stays, too_long}
 use Rattle.hk_operator_wire.proofs.Taking.{fault_is, item_at_fault, item_at_none, taken_in_order}
@@ -37,7 +38,7 @@ use Rattle.hk_operator.specs.declared.recorder.Recorder.{Recorder}
 use Rattle.hk_operator.proofs.Drafting.{next_draft, no_draft, room_stays}
 use Rattle.hk_operator.proofs.SoundThere.{next_sound}
 use Rattle.hk_operator.proofs.WholeCommands.{IsWhole, whole_is}
-use Rattle.hk_operator.proofs.CallsAfter.{maybe, same_fault_in, answered_as, no_end, over_stays, fault_ends, byte_used, commands_by, commands_now}
+use Rattle.hk_operator.proofs.CallsAfter.{same_fault_in, answered_as, no_end, over_stays, fault_ends, byte_used, commands_by, commands_now}
 
 module _ (rules : Rules) (op : Operator) (view : ShelfView) (operator_stream : OperatorStream) (state : OperatorState) (b : ℕ) (h : IsObeying rules op view operator_stream state)
     (wire : OpWire) (item : OpItem) (pushes : Pushes op.wire b wire item) where
@@ -105,7 +106,7 @@ module _ (rules : Rules) (op : Operator) (view : ShelfView) (operator_stream : O
     over_by : (end : Option OpEnd) → operator_stream.end ≡ end → Ended × (Obeys × (new_commands rules operator_stream b ≡ []))
     over_by None going =
         let obeyed : HasObeyed rules op operator_stream.used state.song = at_end None going in
-        elim (maybe (operator_met rules.bytes used)) [
+        elim (none_or_some (operator_met rules.bytes used)) [
           | inl none ↦ absurd (joined-no_fault (brought bytes) (is_whole_command bytes) fault (sym (in_order obeyed none) ∙ is))
           | inr some ↦
               let same : some.0 ≡ fault = same_fault_in some.0 fault (sym (faulty obeyed some.0 some.1) ∙ is) in
@@ -194,7 +195,7 @@ module _ (rules : Rules) (op : Operator) (view : ShelfView) (operator_stream : O
   goes_by : ((fault : WireFault) → item ≡ items.Fault fault → ⊥) → (end : Option OpEnd) → operator_stream.end ≡ end → IsOn
   goes_by known None going =
       let obeyed : HasObeyed rules op operator_stream.used state.song = at_end None going in
-      elim (maybe (operator_met rules.bytes used)) [
+      elim (none_or_some (operator_met rules.bytes used)) [
         | inl none ↦ elim (cases_lt (length operator_stream.used) 4) [ inl short ↦ hello_on going obeyed none short | inr far ↦ command_on going obeyed none far ]
         | inr some ↦ absurd (known some.0 (faulty obeyed some.0 some.1))
       ]
@@ -223,7 +224,7 @@ module _ (rules : Rules) (op : Operator) (view : ShelfView) (operator_stream : O
     whole_ends : ends item ≡ is_whole_command bytes
     whole_ends = ap ends on.item_is ∙ ends-joined (brought bytes) (is_whole_command bytes)
 
-    order_now : IsInOrder bytes
+    order_now : IsGoodSoFar bytes
     order_now = taken_in_order wire used (pushes.taken operator_stream.used on.obeyed.taken)
         (ap (λ n. operator_fault n used) limit_now ∙ fault_is rules.bytes operator_stream.used b on.obeyed.no_fault ∙ on.met)
 

@@ -10,7 +10,7 @@ use Rattle.hk_base.specs.declared.plain.Form.{Form}
 use Rattle.hk_spec_streams.specs.Operator.{Command, AddWords, OpenSong, Withdraw, command_of, command_for, words_of}
 use Rattle.hk_spec_streams.proofs.CommandRows.{by_row}
 use Rattle.hk_spec_streams.proofs.GrowingCommands.{whole_command}
-use Rattle.hk_operator_wire.specs.Taken.{IsInOrder}
+use Rattle.hk_operator_wire.specs.Taken.{IsGoodSoFar}
 use Rattle.hk_operator_wire.proofs.Ending.{content_is, has_id_is, fits_is, no_row}
 use Rattle.hk_operator.specs.Draft.{IsDraft, Drafts, DraftsAs}
 use Rattle.hk_operator.specs.WordBuffer.{KeepsWords}
@@ -24,7 +24,7 @@ pub record IsWhole (d : Draft) (bytes : List ℕ) : Type 0 where
   pub draft : Drafts d command
   pub sound : sound_of command ≡ sound_there bytes
 
-module _ (d : Draft) (bytes : List ℕ) (order : IsInOrder bytes) (is : IsDraft d bytes) (whole : packet_size w32 bytes ≡ length bytes) where
+module _ (d : Draft) (bytes : List ℕ) (order : IsGoodSoFar bytes) (is : IsDraft d bytes) (whole : packet_size w32 bytes ≡ length bytes) where
   payload : 5 + from_be_bytes w32 (take 4 (drop 1 bytes)) ≡ length bytes
   payload = omega (arith, whole)
 

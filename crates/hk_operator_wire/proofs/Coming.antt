@@ -16,7 +16,7 @@ use Rattle.hk_operator_wire.specs.Items.{head_of}
 use Rattle.hk_operator_wire.specs.Heads.{head_fault, has_bad_byte}
 use Rattle.hk_operator_wire.proofs.Reading.{next_bytes}
 use Rattle.hk_operator_wire.proofs.Payloads.{same_kind, same_length}
-use Rattle.hk_operator_wire.specs.Taken.{IsInOrder}
+use Rattle.hk_operator_wire.specs.Taken.{IsGoodSoFar}
 
 -- the byte begins a command, or goes to the open one
 pub data Comes (bytes : List ℕ) (b : ℕ) (next : List ℕ) : Type 0 where
@@ -76,7 +76,7 @@ module _ (p : ℕ) (bytes : List ℕ) (none : head_fault p (head_of bytes) ≡ N
   factor_now kind eleven = holds (length bytes == 11) (is_one_of FACTORS (slice_index bytes 10)) (form_rows kind).1 (eq-eqb _ _ eleven)
 
 -- no byte of a command yet
-pub nothing_in_order : IsInOrder []
+pub nothing_in_order : IsGoodSoFar []
 nothing_in_order = record {
   kind = λ some. absurd (omega (arith, some));
   fits = λ five. absurd (omega (arith, five));
@@ -85,7 +85,7 @@ nothing_in_order = record {
   within = omega arith;
 }
 
-first_in_order : (p b : ℕ) → head_fault p (head_of (b ∷ [])) ≡ None → IsInOrder (b ∷ [])
+first_in_order : (p b : ℕ) → head_fault p (head_of (b ∷ [])) ≡ None → IsGoodSoFar (b ∷ [])
 first_in_order p b none = record {
   kind = λ some. kind_now p (b ∷ []) none refl;
   fits = λ five. absurd (omega (arith, five));
@@ -94,7 +94,7 @@ first_in_order p b none = record {
   within = omega arith;
 }
 
-module _ (p : ℕ) (bytes : List ℕ) (b : ℕ) (is : IsInOrder bytes) (some : 0 < length bytes) (part : packet_size w32 bytes ≡ length bytes → ⊥)
+module _ (p : ℕ) (bytes : List ℕ) (b : ℕ) (is : IsGoodSoFar bytes) (some : 0 < length bytes) (part : packet_size w32 bytes ≡ length bytes → ⊥)
     (none : head_fault p (head_of (bytes ++ b ∷ [])) ≡ None) where
   longer : length (bytes ++ b ∷ []) ≡ length bytes + 1
   longer = length-append bytes (b ∷ [])
@@ -102,7 +102,7 @@ module _ (p : ℕ) (bytes : List ℕ) (b : ℕ) (is : IsInOrder bytes) (some : 0
   kind_before : content_of (slice_index (bytes ++ b ∷ []) 0) ≡ SoundForm → content_of (slice_index bytes 0) ≡ SoundForm
   kind_before kind = sym (ap content_of (same_kind bytes b some)) ∙ kind
 
-  more_in_order : IsInOrder (bytes ++ b ∷ [])
+  more_in_order : IsGoodSoFar (bytes ++ b ∷ [])
   more_in_order =
       let within : length bytes ≤ packet_size w32 bytes = is.within in
       let below : length bytes < packet_size w32 (bytes ++ b ∷ []) = packet_size_32.taking bytes b (omega (arith, within, part)) in
@@ -125,8 +125,8 @@ module _ (p : ℕ) (bytes : List ℕ) (b : ℕ) (is : IsInOrder bytes) (some : 0
         within = omega (arith, longer, below);
       }
 
-pub next_in_order : (p : ℕ) (bytes : List ℕ) (b : ℕ) → IsInOrder bytes → head_fault p (head_of (next_bytes bytes b)) ≡ None → IsInOrder (next_bytes bytes b)
+pub next_in_order : (p : ℕ) (bytes : List ℕ) (b : ℕ) → IsGoodSoFar bytes → head_fault p (head_of (next_bytes bytes b)) ≡ None → IsGoodSoFar (next_bytes bytes b)
 next_in_order p bytes b is none = elim (comes bytes b) [
-  | Begins begins same ↦ subst IsInOrder (sym same) (first_in_order p b (subst (λ xs. head_fault p (head_of xs) ≡ None) same none))
-  | Goes same some part ↦ subst IsInOrder (sym same) (more_in_order p bytes b is some part (subst (λ xs. head_fault p (head_of xs) ≡ None) same none))
+  | Begins begins same ↦ subst IsGoodSoFar (sym same) (first_in_order p b (subst (λ xs. head_fault p (head_of xs) ≡ None) same none))
+  | Goes same some part ↦ subst IsGoodSoFar (sym same) (more_in_order p bytes b is some part (subst (λ xs. head_fault p (head_of xs) ≡ None) same none))
 ]

@@ -13,7 +13,7 @@ use Rattle.hk_operator_wire.specs.declared.item.OpItem.TheVariants as items
 use Rattle.hk_operator_wire.specs.declared.item.Part.{Part}
 use Rattle.hk_operator_wire.specs.declared.item.Part.TheVariants as parts
 use Rattle.hk_operator_wire.specs.Items.{brought, joined, part_of, ends, IsPossible, is_whole_command, item_of}
-use Rattle.hk_operator_wire.specs.Taken.{IsInOrder}
+use Rattle.hk_operator_wire.specs.Taken.{IsGoodSoFar}
 use Rattle.hk_operator_wire.proofs.Saying.{Says, SaysNothing, SaysForm, says}
 
 -- the parts of an item
@@ -60,7 +60,7 @@ joined-no_fault (parts.Word word) false fault is = cc
 joined-no_fault (parts.Form form) false fault is = cc
 joined-no_fault (parts.Byte byte) false fault is = cc
 
-module _ (bytes : List ℕ) (order : IsInOrder bytes) where
+module _ (bytes : List ℕ) (order : IsGoodSoFar bytes) where
   abbrev kind : ℕ
   kind = slice_index bytes 0
 

@@ -1,8 +1,8 @@
 -- What the whole text says of its last byte, by the last command alone.
-use Rattle.std.proofs.Common.{◌≡◌, ℕ, ◌+◌, ◌-◌, ◌<◌, ◌≤◌, List, [], ◌∷◌, ◌++◌, length, take, drop, refl, sym, ◌∙◌, ap, subst, arith, length-append, Bool, true, false, Option, Some, cond, Result, Ok, Err}
+use Rattle.std.proofs.Common.{◌≡◌, ℕ, ◌+◌, ◌-◌, ◌<◌, ◌≤◌, List, [], ◌∷◌, ◌++◌, length, take, drop, refl, sym, ◌∙◌, ap, subst, arith, length-append, Bool, true, false, Option, Some, cond, Ok, Err}
 use Rattle.std.specs.Prelude.{◌==◌, ◌||◌, ◌&&◌, not, nat_lt, slice_index, if◌then◌else◌}
 use Rattle.std.specs.Int.{w32, from_be_bytes}
-use Rattle.std.specs.Result.{result_err, IfOk, OnOk}
+use Rattle.std.specs.Result.{result_err, IfOk}
 use Rattle.std.proofs.lemmas.List.{take-append-le, take_all, get_or_at}
 use Rattle.std.proofs.lemmas.Bool.{lt-ltb, le-ltb, le-leb, ne_eqb}
 use Rattle.hk_base.specs.declared.plain.WireFault.{WireFault}
@@ -173,10 +173,6 @@ pub at_border : (text : List ℕ) → 4 ≤ length text → ((length text == 0) 
 at_border text long =
     ap (λ t. t || ends_at_start operator_grammar text) (ne_eqb (length text) 0 (λ e. omega (arith, e, long)))
     ∙ ends_at_start-is text ∙ ap (λ t. t && over (packet_size w32) (last_command text)) (le-leb 4 (length text) long)
-
-pub on_ok : {T E P : Type 0} (r : Result T E) → P → OnOk r P
-on_ok (Ok x) holds = holds
-on_ok (Err e) holds = tt
 
 -- the last packet with the next byte, for lengths of four bytes
 pub next_last : (size : LengthSize) (new : LastPacket) (bytes : List ℕ) (b : ℕ) → size ≡ Four

@@ -8,7 +8,7 @@ use Rattle.hk_spec_streams.proofs.FirstFault.{fault_of-append}
 use Rattle.hk_operator_wire.specs.declared.item.OpItem.TheVariants as items
 use Rattle.hk_operator_wire.specs.declared.wire.OpWire.{OpWire}
 use Rattle.hk_operator_wire.specs.Items.{last_command, item_of, op_item_at}
-use Rattle.hk_operator_wire.specs.Taken.{HasTaken, IsInOrder, limit_of}
+use Rattle.hk_operator_wire.specs.Taken.{HasTaken, IsGoodSoFar, limit_of}
 
 pub no_text : (limit : ℕ) → operator_fault limit [] ≡ None
 unfolding first_met
@@ -27,5 +27,5 @@ pub fault_is : (limit : ℕ) (text : List ℕ) (b : ℕ) → operator_fault limi
 fault_is limit text b none = fault_of-append (operator_met limit) text b ∙ ap (λ o. option_or o (operator_met limit (text ++ b ∷ []))) none
 
 -- the last command of a text without a fault is in order
-pub taken_in_order : (wire : OpWire) (text : List ℕ) → HasTaken wire text → operator_fault (limit_of wire) text ≡ None → IsInOrder (last_command text)
+pub taken_in_order : (wire : OpWire) (text : List ℕ) → HasTaken wire text → operator_fault (limit_of wire) text ≡ None → IsGoodSoFar (last_command text)
 taken_in_order wire text has none = (has.stands (has.keeps.fault_is ∙ none)).order

@@ -17,7 +17,7 @@ use Rattle.hk_operator_wire.specs.Items.{last_command, op_item_at, IsPossible}
 use Rattle.hk_operator_wire.specs.Heads.{HasLastFour}
 
 -- the bytes of a command that has no fault so far
-pub record IsInOrder (bytes : List ℕ) : Type 0 where
+pub record IsGoodSoFar (bytes : List ℕ) : Type 0 where
   pub kind : 0 < length bytes → is_some (row_of (slice_index bytes 0)) ≡ true
   pub fits : 5 ≤ length bytes → command_length_fits (slice_index bytes 0) (from_be_bytes w32 (take 4 (drop 1 bytes))) ≡ true
   pub channels : content_of (slice_index bytes 0) ≡ SoundForm → 10 ≤ length bytes → is_one_of CHANNELS (slice_index bytes 9) ≡ true
@@ -32,7 +32,7 @@ command_count reader = count_of reader.packet
 pub record StandsAfter (reader : OpReader) (text : List ℕ) : Type 0 where
   pub packet : IsLast reader.packet (last_command text)
   pub recent : HasLastFour reader.recent (last_command text)
-  pub order : IsInOrder (last_command text)
+  pub order : IsGoodSoFar (last_command text)
 
 -- at most so many bytes are taken
 abbrev pub limit_of : OpWire → ℕ

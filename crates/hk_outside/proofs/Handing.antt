@@ -25,11 +25,6 @@ set_other f d (y ∷ ys) zero (suc k) x other = refl
 set_other f d (y ∷ ys) (suc n) zero x other = refl
 set_other f d (y ∷ ys) (suc n) (suc k) x other = set_other f d ys n k x (λ same. other (ap suc same))
 
-pub in_range : {P : Type 0} (xs : List P) (n : ℕ) (x : P) → slice_get xs n ≡ Some x → n < length xs
-in_range [] n x is = absurd (let no : None ≡ Some x = is in cc)
-in_range (y ∷ ys) zero x is = omega arith
-in_range (y ∷ ys) (suc n) x is = let less = in_range ys n x is in omega (arith, less)
-
 pub all_at : {P : Type 0} (F : P → Type 0) (xs : List P) (n : ℕ) (x : P) → All F xs → slice_get xs n ≡ Some x → F x
 all_at F [] n x all is = absurd (let no : None ≡ Some x = is in cc)
 all_at F (y ∷ ys) zero x all is = let same : y ≡ x = cc in subst F same (All-head F y ys all)

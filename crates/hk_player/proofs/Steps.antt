@@ -55,6 +55,10 @@ around text piece i inside =
     ∙ ap (λ rest. text ++ (take i piece ++ rest)) (rw (add-one, drop-cons piece i 0))
     ∙ sym (append_assoc text (take i piece) (get_or piece i 0 ∷ drop (i + 1) piece))
 
+-- a text with the front of a line, the rest of the line, and more behind it
+pub regrouped : (text front missing more : List ℕ) → (text ++ (front ++ missing)) ++ more ≡ text ++ (front ++ (missing ++ more))
+regrouped text front missing more = simp append_assoc
+
 -- one byte more
 pub further : (text piece : List ℕ) (i : ℕ) → i < length piece
     → text ++ take (i + 1) piece ≡ (text ++ take i piece) ++ get_or piece i 0 ∷ []

@@ -4,7 +4,8 @@ use Rattle.std.proofs.lemmas.Bool.{le-ltb, lt-ltb}
 use Rattle.std.proofs.lemmas.List.{take_all, take-append-le}
 use Rattle.std.proofs.Math.Seq.{take-append-add}
 use Rattle.hk_base.specs.declared.plain.Trouble.TheVariants.{TooLong}
-use Rattle.hk_spec_runs.specs.Words.{Printing, Print}
+use Rattle.hk_spec_runs.specs.Options.{Printing}
+use Rattle.hk_spec_runs.specs.Words.{Print}
 use Rattle.hk_spec_runs.specs.Outcome.{task_of, over_limit, print_text}
 use Rattle.hk_player.specs.Playing.{IsInForm}
 use Rattle.hk_printer.specs.Sounding.{lines_of}

@@ -6,11 +6,13 @@ use Rattle.hk_spec_sound.specs.Prints.{full_analysis, prints_of_sound}
 use Rattle.hk_base.specs.declared.plain.Trouble.{Trouble}
 use Rattle.hk_base.specs.declared.plain.Trouble.TheVariants.{TooLong}
 use Rattle.hk_spec_lines.specs.Lines.{print_line}
-use Rattle.hk_spec_runs.specs.Words.{Printing, Print as Prints}
+use Rattle.hk_spec_runs.specs.Options.{Printing}
+use Rattle.hk_spec_runs.specs.Words.{Print as Prints}
 use Rattle.hk_spec_runs.specs.Outcome.{task_of, print_text}
 use Rattle.hk_front.specs.Hearing as fronts
 use Rattle.hk_front.specs.Hearing.{Hearing, KeepsRules}
 use Rattle.hk_player.specs.Playing.{StopsBehind}
+use Rattle.hk_player.proofs.Steps.{regrouped}
 use Rattle.hk_printer.specs.declared.printer.Printer.{Printer}
 use Rattle.hk_printer.specs.Sounding.{lines_of}
 use Rattle.hk_printer.specs.Printed.{HasPrinted, printing_of}
@@ -92,9 +94,6 @@ module _ (old : Printer) (text : List ℕ) (b : ℕ) (h : HasPrinted old text) (
         ap (print_text p) (sym (append_assoc text (b ∷ []) more)) ∙ on.1 ∙ ap (λ o. o ++ on.0) (is ∙ ap (λ o. o ++ (front ++ missing)) (sym (all_printed p text h.within)))
             ∙ regrouped (print_text p text) front missing on.0,
       )
-    where
-      regrouped : (t f m r : List ℕ) → (t ++ (f ++ m)) ++ r ≡ t ++ (f ++ (m ++ r))
-      regrouped t f m r = simp append_assoc
 
 -- behind the limit
 pub stopped : (old : Printer) (refused text : List ℕ) (b : ℕ) → HasPrinted old text → length text ≡ old.limit → StopsBehind (task_of (Prints (printing_of old))) refused text b (TooLong old.limit)

@@ -2,7 +2,8 @@
 use Rattle.std.specs.Prelude.{◌≡◌, ℕ, ◌≤◌, ◌<◌, ◌^◌, if◌then◌else◌, List, length, Option, Some, None}
 use Rattle.hk_base.specs.declared.plain.Trouble.{Trouble}
 use Rattle.hk_base.specs.declared.plain.Trouble.TheVariants.{TooLong}
-use Rattle.hk_spec_runs.specs.Words.{Printing, Print}
+use Rattle.hk_spec_runs.specs.Options.{Printing}
+use Rattle.hk_spec_runs.specs.Words.{Print}
 use Rattle.hk_spec_runs.specs.Outcome.{task_of}
 use Rattle.hk_front.specs.Hearing as fronts
 use Rattle.hk_player.specs.Playing.{IsInForm}

@@ -1,6 +1,6 @@
 // Sound that is printed.
 ghost use Rattle.std.specs.Prelude.{◌≡◌, ◌≤◌, ◌<◌, ◌^◌, ℕ, List, [], IfOk, true};
-ghost use Rattle.hk_spec_runs.specs.Words.{Printing};
+ghost use Rattle.hk_spec_runs.specs.Options.{Printing};
 
 use hk_base::{NoMemory, Sink, Steps, Trouble};
 use hk_front::Front;

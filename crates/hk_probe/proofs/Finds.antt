@@ -2,7 +2,7 @@
 use Rattle.std.proofs.Common.{◌≡◌, ℕ, suc, ◌+◌, ◌-◌, ◌*◌, ◌/◌, ◌<◌, ◌≤◌, ◌==◌, nat_le, ◌&&◌, List, [], ◌∷◌, length, map, drop, get_or, zip, sum_by, None, Bool, true, false, cond, refl, sym, ◌∙◌, ap, arith, zero-add, inl, inr}
 use Rattle.std.specs.List.{range_with_len, enumerate_from, position_or_len}
 use Rattle.std.specs.Int.Bits.{bit_and, bit_xor, xor_self, xor_assoc}
-use Rattle.std.proofs.lemmas.Bool.{cases_eq, cases_lt}
+use Rattle.std.proofs.lemmas.Bool.{cases_eq, cases_lt, eq-eqb, ne_eqb, le-leb, lt-leb}
 use Rattle.std.proofs.lemmas.Bool.Decides.{leb_tells}
 use Rattle.std.proofs.lemmas.Nat.{and_le_r}
 use Rattle.std.proofs.lemmas.List.{get_or-take, get_or-drop, length-take, length-drop}
@@ -19,7 +19,7 @@ use Rattle.hk_probe.specs.Comparison.{first_hit, first_match_at}
 use Rattle.hk_probe.specs.Search.{fits, found, found_of, found_by, found_in, HaveSame}
 use Rattle.hk_probe.proofs.Sums.{of_option, sum_by-same, sum_by-of_map, sum_by-of_flat_map, sum_by-of_filter, sum_by-of_filter_map, sum_by-exchanged, sum_by-shifted, sum_by-joined, sum_by-nowhere, sum_by-at_one}
 use Rattle.hk_probe.proofs.Starts.{all_starts}
-use Rattle.hk_probe.proofs.Matches.{equal, unequal, match-no_hit, none_hits, first_match-is, first_match-none}
+use Rattle.hk_probe.proofs.Matches.{match-no_hit, none_hits, first_match-is, first_match-none}
 
 -- ---- the words that are looked up for a print
 
@@ -38,15 +38,15 @@ looked_up_once print w x =
     let d = bit_xor print.word w in
     let term : ℕ → ℕ = λ s. cond (bit_and s print.mask == s) (cond (w == bit_xor print.word s) x 0) 0 in
     let others : (s : ℕ) → (s ≡ d → ⊥) → term s ≡ 0 = λ s other.
-    ap (λ b. cond (bit_and s print.mask == s) (cond b x 0) 0) (unequal w (bit_xor print.word s) (λ is. other (sym (ap (bit_xor print.word) is ∙ flipped_twice print.word s))))
+    ap (λ b. cond (bit_and s print.mask == s) (cond b x 0) 0) (ne_eqb w (bit_xor print.word s) (λ is. other (sym (ap (bit_xor print.word) is ∙ flipped_twice print.word s))))
     ∙ either (bit_and s print.mask == s) 0 in
     let here : term d ≡ cond (is_hit (print, w)) x 0 =
-    ap (λ b. cond (bit_and d print.mask == d) (cond b x 0) 0) (equal w (bit_xor print.word d) (sym (flipped_twice print.word w))) in
+    ap (λ b. cond (bit_and d print.mask == d) (cond b x 0) 0) (eq-eqb w (bit_xor print.word d) (sym (flipped_twice print.word w))) in
     sum_by-of_filter (λ s. cond (w == bit_xor print.word s) x 0) (λ s. bit_and s print.mask == s) (range_with_len 0 (print.mask + 1))
     ∙ elim (leb_tells d print.mask) [
       | inl low ↦ sum_by-at_one term 0 (print.mask + 1) d (omega arith) (omega (arith, low.1)) others ∙ here
       | inr high ↦
-          let no_hit : is_hit (print, w) ≡ false = unequal (bit_and d print.mask) d (λ is. omega (arith, and_le_r d print.mask, high.1)) in
+          let no_hit : is_hit (print, w) ≡ false = ne_eqb (bit_and d print.mask) d (λ is. omega (arith, and_le_r d print.mask, high.1)) in
           sum_by-nowhere term 0 (print.mask + 1) (λ i above below. others i (λ is. omega (arith, high.1)))
           ∙ sym (ap (λ b. cond b x 0) no_hit)
     ]
@@ -76,12 +76,6 @@ of_print f query songs print =
 
 -- ---- the positions of a song for one print
 
-true_le : (a b : ℕ) → a ≤ b → nat_le a b ≡ true
-true_le a b is = elim (leb_tells a b) [ inl low ↦ low.0 | inr high ↦ absurd (omega (arith, is, high.1)) ]
-
-false_le : (a b : ℕ) → b < a → nat_le a b ≡ false
-false_le a b is = elim (leb_tells a b) [ inl low ↦ absurd (omega (arith, is, low.1)) | inr high ↦ high.0 ]
-
 pub found-outside : (query : Query) (j : ℕ) (song : ℕ × Song) (p : ℕ) → fits query j song p ≡ false → found query j song p ≡ None
 unfolding found
 found-outside query j song p outside =
@@ -94,8 +88,8 @@ unfolding found
 found-inside query j song p q is within =
     let start : p - j ≡ q = omega arith in
     let inside : fits query j song p ≡ true =
-    ap (λ b. b && nat_le (p - j + length query.prints) (length song.1.words)) (true_le j p (omega arith))
-    ∙ true_le (p - j + length query.prints) (length song.1.words) (omega arith) in
+    ap (λ b. b && nat_le (p - j + length query.prints) (length song.1.words)) (le-leb j p (omega arith))
+    ∙ le-leb (p - j + length query.prints) (length song.1.words) (omega arith) in
     ap (λ b. cond b (first_match_at query j song (p - j, window (length query.prints) 1 song.1.words (p - j))) None) inside
     ∙ ap (λ s. first_match_at query j song (s, window (length query.prints) 1 song.1.words s)) start
 
@@ -150,18 +144,18 @@ no_both true = refl
 no_both false = refl
 
 pub fits-early : (query : Query) (j : ℕ) (song : ℕ × Song) (p : ℕ) → p < j → fits query j song p ≡ false
-fits-early query j song p early = ap (λ b. b && nat_le (p - j + length query.prints) (length song.1.words)) (false_le j p early)
+fits-early query j song p early = ap (λ b. b && nat_le (p - j + length query.prints) (length song.1.words)) (lt-leb j p early)
 
 pub fits-late : (query : Query) (j : ℕ) (song : ℕ × Song) (p : ℕ) → length song.1.words < p - j + length query.prints → fits query j song p ≡ false
-fits-late query j song p late = ap (λ b. nat_le j p && b) (false_le (p - j + length query.prints) (length song.1.words) late) ∙ no_both (nat_le j p)
+fits-late query j song p late = ap (λ b. nat_le j p && b) (lt-leb (p - j + length query.prints) (length song.1.words) late) ∙ no_both (nat_le j p)
 
 count_none : (size n : ℕ) → n < size → window_count size 1 n ≡ 0
-count_none size n short = ap (λ b. cond b 0 ((n - size) / 1 + 1)) (true_le (suc n) size (omega arith))
+count_none size n short = ap (λ b. cond b 0 ((n - size) / 1 + 1)) (le-leb (suc n) size (omega arith))
 
 count_some : (size n : ℕ) → size ≤ n → window_count size 1 n ≡ n - size + 1
 count_some size n long =
     let ones : (n - size) / 1 ≡ n - size = omega arith in
-    ap (λ b. cond b 0 ((n - size) / 1 + 1)) (false_le (suc n) size (omega arith)) ∙ ap (λ k. k + 1) ones
+    ap (λ b. cond b 0 ((n - size) / 1 + 1)) (lt-leb (suc n) size (omega arith)) ∙ ap (λ k. k + 1) ones
 
 -- the starts of a song
 abbrev starts : Query → ℕ × Song → List ℕ
@@ -192,11 +186,11 @@ for_print f query song j d low =
       | inl first ↦
           ap (λ o. cond (is_hit (print, word)) (of_option f o) 0) (first_match-is query j song (q, here) first)
           ∙ ap (λ b. cond b (of_start f query song q) 0) (first_hits query.prints words q j d low within first)
-          ∙ sym (ap (λ b. cond b (of_start f query song q) 0) (equal (first_hit query.prints here) j first))
+          ∙ sym (ap (λ b. cond b (of_start f query song q) 0) (eq-eqb (first_hit query.prints here) j first))
       | inr other ↦
           ap (λ o. cond (is_hit (print, word)) (of_option f o) 0) (first_match-none query j song (q, here) other)
           ∙ either (is_hit (print, word)) 0
-          ∙ sym (ap (λ b. cond b (of_start f query song q) 0) (unequal (first_hit query.prints here) j other))
+          ∙ sym (ap (λ b. cond b (of_start f query song q) 0) (ne_eqb (first_hit query.prints here) j other))
     ] in
     listed ∙ elim (leb_tells size (length words)) [
       | inl long ↦
@@ -229,9 +223,9 @@ found_once f query song q =
     let first = first_hit query.prints here in
     let all = of_start f query song q in
     let term : ℕ → ℕ = λ j. at_first f query song j q in
-    let others : (j : ℕ) → (first ≡ j → ⊥) → term j ≡ 0 = λ j other. ap (λ b. cond b all 0) (unequal first j other) in
+    let others : (j : ℕ) → (first ≡ j → ⊥) → term j ≡ 0 = λ j other. ap (λ b. cond b all 0) (ne_eqb first j other) in
     elim (cases_lt first size) as (λ _. sum_by term (range_with_len 0 size) ≡ all) [
-      | inl low ↦ sum_by-at_one term 0 size first (omega arith) (omega arith) (λ j other. others j (λ is. other (sym is))) ∙ ap (λ b. cond b all 0) (equal first first refl)
+      | inl low ↦ sum_by-at_one term 0 size first (omega arith) (omega arith) (λ j other. others j (λ is. other (sym is))) ∙ ap (λ b. cond b all 0) (eq-eqb first first refl)
       | inr past ↦
           let nothing : match_at query song (q, here) ≡ None = match-no_hit query song (q, here) (none_hits query.prints here (omega (arith, length-zip query.prints here))) in
           sum_by-nowhere term 0 size (λ j above below. others j (λ is. omega arith)) ∙ sym (ap (of_option f) nothing)

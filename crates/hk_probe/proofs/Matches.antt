@@ -1,22 +1,16 @@
 -- When a start has a match, and when it has none.
-use Rattle.std.proofs.Common.{◌≡◌, ℕ, ◌<◌, ◌≤◌, ◌==◌, ◌&&◌, List, cond, true, false, nat_le, length, zip, Some, None, sym, ap, arith}
+use Rattle.std.proofs.Common.{◌≡◌, ℕ, ◌<◌, ◌≤◌, ◌&&◌, List, cond, true, false, nat_le, length, zip, Some, None, sym, ap, arith}
 use Rattle.std.specs.List.{list_any}
-use Rattle.std.proofs.lemmas.Bool.Decides.{nat_tests}
 use Rattle.std.proofs.lemmas.List.Sums.{fails_before_first, passes_at_first}
 use Rattle.std.proofs.lemmas.List.Folds.{list_any_none, list_any_at}
 use Rattle.std.proofs.lemmas.Slice.Zip.{length-zip}
+use Rattle.std.proofs.lemmas.Bool.{eq-eqb, ne_eqb}
 use Rattle.hk_base.specs.declared.plain.Match.{Match}
 use Rattle.hk_base.specs.declared.plain.Print.{Print}
 use Rattle.hk_spec_matching.specs.Catalogue.{Song}
 use Rattle.hk_spec_matching.specs.Matching.{Query, match_at, errors_of, is_hit, query_for}
 use Rattle.hk_catalogue.specs.Shelves.{song_of}
 use Rattle.hk_probe.specs.Comparison.{first_hit, match_within, first_match_at}
-
-pub unequal : (a b : ℕ) → (a ≡ b → ⊥) → (a == b) ≡ false
-unequal a b other = grind (arith, nat_tests)
-
-pub equal : (a b : ℕ) → a ≡ b → (a == b) ≡ true
-equal a b same = grind (arith, nat_tests)
 
 pub match-no_hit : (query : Query) (song : ℕ × Song) (start : ℕ × List ℕ) → list_any is_hit (zip query.prints start.1) ≡ false
     → match_at query song start ≡ None
@@ -50,9 +44,9 @@ match-first prints id start words whole many as_many first =
 pub first_match-is : (query : Query) (j : ℕ) (song : ℕ × Song) (start : ℕ × List ℕ) → first_hit query.prints start.1 ≡ j
     → first_match_at query j song start ≡ match_at query song start
 unfolding first_match_at
-first_match-is query j song start first = ap (λ b. cond b (match_at query song start) None) (equal (first_hit query.prints start.1) j first)
+first_match-is query j song start first = ap (λ b. cond b (match_at query song start) None) (eq-eqb (first_hit query.prints start.1) j first)
 
 pub first_match-none : (query : Query) (j : ℕ) (song : ℕ × Song) (start : ℕ × List ℕ) → (first_hit query.prints start.1 ≡ j → ⊥)
     → first_match_at query j song start ≡ None
 unfolding first_match_at
-first_match-none query j song start other = ap (λ b. cond b (match_at query song start) None) (unequal (first_hit query.prints start.1) j other)
+first_match-none query j song start other = ap (λ b. cond b (match_at query song start) None) (ne_eqb (first_hit query.prints start.1) j other)

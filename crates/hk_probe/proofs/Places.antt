@@ -2,21 +2,20 @@
 use Rattle.std.proofs.Common.{◌≡◌, ◌≢◌, ℕ, zero, suc, ◌+◌, ◌<◌, ◌≤◌, ◌==◌, List, [], ◌∷◌, map, filter, flat_map, sum_by, Option, Some, None, option_map, Bool, true, false, cond, refl, sym, ◌∙◌, ap, subst, arith, zero-add, inl, inr}
 use Rattle.std.specs.List.{All, Contains, enumerate_from, slice_get}
 use Rattle.std.specs.Option.{option_map_or}
-use Rattle.std.proofs.lemmas.Bool.{cases_eq}
+use Rattle.std.proofs.lemmas.Bool.{cases_eq, eq-eqb, ne_eqb}
 use Rattle.std.proofs.lemmas.Option.{same_Some, none-some}
 use Rattle.std.proofs.lemmas.List.Sums.{sum_by-append}
 use Rattle.std.proofs.lemmas.List.Elements.{All-nil, All-cons, All-head, All-tail, All-append, All-weaker, Contains-append_left, Contains-append_right}
-use Rattle.std.proofs.Math.ListN as lists
 use Rattle.hk_spec_matching.specs.Catalogue.{Song}
 use Rattle.hk_spec_matching.specs.Occurrences.{Occurrence, occurrences, occurrences_in, occurrences_of}
 use Rattle.hk_table.specs.Store.{Store, SongWithId, song_at}
-use Rattle.hk_table.specs.Index.{AreOnce, ArePlaces, StandsAt, index_of, slot_at, words_in}
+use Rattle.hk_table.specs.Index.{AreOnce, ArePlaces, StandsAt, index_of}
 use Rattle.hk_table.specs.declared.place.Place.{Place}
 use Rattle.hk_catalogue.specs.Entries.{AreAbove, AreRising}
 use Rattle.hk_catalogue.specs.Shelves.{song_of, entry_of, songs_in, words_at}
 use Rattle.hk_catalogue.specs.CatalogueInside.{IsHeld, IsFilled}
+use Rattle.hk_catalogue.proofs.Counting.{slot_words}
 use Rattle.hk_probe.specs.Search.{entry_at}
-use Rattle.hk_probe.proofs.Matches.{equal, unequal}
 use Rattle.hk_probe.proofs.Sums.{sum_by-same, sum_by-of_map, sum_by-of_filter}
 use Rattle.hk_probe.proofs.Once.{contains_first, contains_later, once-append, same_sums}
 
@@ -72,10 +71,10 @@ each_stands all slot word a (x ∷ words) same =
     elim (cases_eq x word) [
       | inl is ↦
           let R : Bool → Type 0 = λ b. All P (with_word slot word a x words b) in
-          subst R (sym (equal x word is)) (All-cons P (place slot a) later (refl, ap (slice_get all) here ∙ same 0 ∙ ap (λ w. Some w) is) rest)
+          subst R (sym (eq-eqb x word is)) (All-cons P (place slot a) later (refl, ap (slice_get all) here ∙ same 0 ∙ ap (λ w. Some w) is) rest)
       | inr other ↦
           let R : Bool → Type 0 = λ b. All P (with_word slot word a x words b) in
-          subst R (sym (unequal x word other)) rest
+          subst R (sym (ne_eqb x word other)) rest
     ]
 
 -- a place where the word stands is among these
@@ -86,7 +85,7 @@ stands_in slot word a (x ∷ words) zero there =
     let here : a ≡ a + 0 = omega arith in
     let P : ℕ → Type 0 = λ pos. Contains (place slot a ∷ later) (place slot pos) in
     let R : Bool → Type 0 = λ b. Contains (with_word slot word a x words b) (place slot (a + 0)) in
-    subst R (sym (equal x word (same_Some x word there))) (subst P here (contains_first (place slot a) later))
+    subst R (sym (eq-eqb x word (same_Some x word there))) (subst P here (contains_first (place slot a) later))
 stands_in slot word a (x ∷ words) (suc k) there =
     let later : List Place = places_from slot word (a + 1) words in
     let next : a + 1 + k ≡ a + suc k = omega arith in
@@ -133,15 +132,8 @@ once_in_all store word (e ∷ index) rising held =
     omega (arith, same_Some e.0 higher.0 ids, higher.2)) rest others)
     (places_by store word e) (all_in e.1 word 0 (words_at store e.1)))
 
--- the words of a slot, as an index has them
-words_are : (store : Store) (slot : ℕ) → words_in (slot_at (index_of store) slot) ≡ words_at store slot
-words_are store slot =
-    let words : Option SongWithId → Option (List ℕ) = option_map (λ (track : SongWithId). track.words) in
-    ap words_in (lists.get_or-map words store.slots slot None)
-    ∙ elim (song_at store slot) as (λ o. words_in (words o) ≡ option_map_or (λ (track : SongWithId). track.words) o []) [ Some track ↦ refl | None ↦ refl ]
-
 stands_are : (store : Store) (word : ℕ) (p : Place) → slice_get (words_at store p.slot) p.pos ≡ Some word → StandsAt (index_of store) word p
-stands_are store word p there = ap (λ words. slice_get words p.pos) (words_are store p.slot) ∙ there
+stands_are store word p there = ap (λ words. slice_get words p.pos) (slot_words store p.slot) ∙ there
 
 all_stand : (store : Store) (word : ℕ) (index : List (ℕ × ℕ)) → All (StandsAt (index_of store) word) (places_in store word index)
 all_stand store word [] = All-nil (StandsAt (index_of store) word)
@@ -176,7 +168,7 @@ has_song store slot pos word there =
 all_there : (store : Store) (word : ℕ) (index : List (ℕ × ℕ)) → IsFilled store index → (p : Place) → StandsAt (index_of store) word p
     → Contains (places_in store word index) p
 all_there store word index filled p stands =
-    let there : slice_get (words_at store p.slot) p.pos ≡ Some word = sym (ap (λ words. slice_get words p.pos) (words_are store p.slot)) ∙ stands in
+    let there : slice_get (words_at store p.slot) p.pos ≡ Some word = sym (ap (λ words. slice_get words p.pos) (slot_words store p.slot)) ∙ stands in
     let song = has_song store p.slot p.pos word there in
     let listed : Contains index (song.0.id, p.slot) = filled p.slot song.0 song.1 in
     let P : ℕ → Type 0 = λ pos. Contains (places_from p.slot word 0 (words_at store p.slot)) (place p.slot pos) in
@@ -209,7 +201,7 @@ at_entry g store word e held =
     ∙ sum_by-same (λ x. cond (x.1 == word) (here x.0 x.1) 0) (λ x. cond (x.1 == word) (g (occurrence_at store word (place e.1 x.0))) 0)
     (λ x. elim (cases_eq x.1 word) [
       | inl is ↦ ap (λ n. cond (x.1 == word) n 0) (ap (here x.0) is ∙ ap (λ s. g (record { song = s; position = x.0; word = word })) (sym (entry_is store e held)))
-      | inr other ↦ ap (λ b. cond b (here x.0 x.1) 0) (unequal x.1 word other) ∙ sym (ap (λ b. cond b (g (occurrence_at store word (place e.1 x.0))) 0) (unequal x.1 word other))
+      | inr other ↦ ap (λ b. cond b (here x.0 x.1) 0) (ne_eqb x.1 word other) ∙ sym (ap (λ b. cond b (g (occurrence_at store word (place e.1 x.0))) 0) (ne_eqb x.1 word other))
     ]) words
     ∙ sym (sum_by-of_map (λ p. g (occurrence_at store word p)) (λ (x : ℕ × ℕ). place e.1 x.0) (filter (λ x. x.1 == word) words)
     ∙ sum_by-of_filter (λ (x : ℕ × ℕ). g (occurrence_at store word (place e.1 x.0))) (λ x. x.1 == word) words)

@@ -2,7 +2,7 @@
 use Rattle.std.proofs.Common.{◌≡◌, ℕ, ◌+◌, ◌-◌, ◌<◌, ◌≤◌, ◌==◌, List, [], ◌∷◌, ◌++◌, length, take, drop, get_or, filter_map, flat_map, sum_by, bit_xor, Option, Some, None, Bool, true, false, cond, refl, sym, ◌∙◌, ap, arith, append_assoc, length-append, zero-add, inl, inr}
 use Rattle.std.specs.Option.{option_map_or}
 use Rattle.std.specs.List.{enumerate_from, slice_get, cons_option}
-use Rattle.std.proofs.lemmas.Bool.{cases_eq}
+use Rattle.std.proofs.lemmas.Bool.{cases_eq, eq-eqb, ne_eqb}
 use Rattle.std.proofs.lemmas.Option.{none-some, same_Some}
 use Rattle.std.proofs.lemmas.List.{take_more, take_all, take-append-drop, append-nil, length-take}
 use Rattle.std.proofs.lemmas.List.Folds.{flat_map-map}
@@ -23,13 +23,12 @@ use Rattle.hk_table.specs.Store.{Store, SongWithId, song_at}
 use Rattle.hk_table.specs.Index.{ArePlaces, index_of}
 use Rattle.hk_table.specs.declared.place.Place.{Place}
 use Rattle.hk_block.specs.Room.{AreSorted}
-use Rattle.hk_catalogue.specs.Entries.{AreAbove, AreRising}
-use Rattle.hk_catalogue.specs.Shelves.{Shelves, entry_of, song_of, songs_of, songs_in}
+use Rattle.hk_catalogue.specs.Entries.{AreRising}
+use Rattle.hk_catalogue.specs.Shelves.{Shelves, entry_of, song_of, songs_of}
 use Rattle.hk_catalogue.specs.CatalogueInside.{IsShelved}
 use Rattle.hk_probe.specs.Comparison.{first_match_at}
 use Rattle.hk_probe.specs.Search.{found, found_at, found_of, found_by, found_in, nodes_of, nodes_by, numbered, HaveSame}
 use Rattle.hk_probe.proofs.Sums.{of_option, sum_by-same, sum_by-of_map, sum_by-of_flat_map, sum_by-of_filter, sum_by-of_filter_map}
-use Rattle.hk_probe.proofs.Matches.{equal, unequal}
 use Rattle.hk_probe.proofs.Places.{of_places}
 use Rattle.hk_probe.proofs.Songs.{matches_none}
 use Rattle.hk_probe.proofs.Order.{same_in_order, in_order-from_sorted, matches_in_order, fewer_matches}
@@ -120,8 +119,8 @@ few_places shelves word places are shelved =
     let here : Occurrence → ℕ = λ o. cond (o.word == word) 1 0 in
     let near : Occurrence → ℕ = λ o. cond (bucket o.word == bucket word) 1 0 in
     let one : (o : Occurrence) → here o ≤ near o = λ o. elim (cases_eq o.word word) [
-      | inl is ↦ omega (arith, ap number (equal (bucket o.word) (bucket word) (ap bucket is)), one_or_none (o.word == word) (here o) refl)
-      | inr other ↦ omega (arith, ap number (unequal o.word word other))
+      | inl is ↦ omega (arith, ap number (eq-eqb (bucket o.word) (bucket word) (ap bucket is)), one_or_none (o.word == word) (here o) refl)
+      | inr other ↦ omega (arith, ap number (ne_eqb o.word word other))
     ] in
     let all : sum_by (λ p. 1) places ≡ sum_by (λ o. 1) (occurrences_of word songs) =
     of_places (λ o. 1) shelves.store shelves.index word places are shelved.rising shelved.held shelved.filled in
@@ -196,9 +195,9 @@ pub by_subsets : (query : Query) (songs : Songs) (print : ℕ × Print)
 unfolding found_by
 by_subsets query songs print = sym (flat_map-map (found_of query songs print.0) (bit_xor print.1.word) (subsets print.1.mask))
 
-pub nodes_by_subsets : (positions : ℕ) (songs : Songs) (print : Print)
-    → nodes_by positions songs print ≡ sum_by (λ s. nodes_of positions songs (bit_xor print.word s)) (subsets print.mask)
-nodes_by_subsets positions songs print = sum_by-of_map (nodes_of positions songs) (bit_xor print.word) (subsets print.mask)
+pub nodes_by_subsets : (positions : ℕ) (query : Query) (songs : Songs) (print : Print)
+    → nodes_by positions query songs print ≡ sum_by (λ s. nodes_of positions songs (bit_xor print.word s)) (subsets print.mask)
+nodes_by_subsets positions query songs print = sum_by-of_map (nodes_of positions songs) (bit_xor print.word) (subsets print.mask)
 
 -- ---- one print after another
 
@@ -263,18 +262,9 @@ all_matches query songs put ordered n whole rising before same up =
     (in_order-from_sorted ordered up) (matches_in_order query songs rising)
 
 -- the nodes of all prints are the cost
-pub nodes_are_cost : (positions : ℕ) (query : Query) (songs : Songs) → sum_by (nodes_by positions songs) query.prints ≡ cost positions query songs
+pub nodes_are_cost : (positions : ℕ) (query : Query) (songs : Songs) → sum_by (nodes_by positions query songs) query.prints ≡ cost positions query songs
 unfolding cost
 nodes_are_cost positions query songs = sym (sum_by-of_flat_map (nodes_of positions songs) looked_up query.prints)
-
-ids_stay_above : (store : Store) (id : ℕ) (index : List (ℕ × ℕ)) → AreAbove id index → AreAbove id (songs_in store index)
-ids_stay_above store id [] above = tt
-ids_stay_above store id (e ∷ index) above = (above.0, ids_stay_above store id index above.1)
-
--- the ids of the songs rise as those of the index
-pub songs_rise : (store : Store) (index : List (ℕ × ℕ)) → AreRising index → AreRising (songs_in store index)
-songs_rise store [] rising = tt
-songs_rise store (e ∷ index) rising = (ids_stay_above store e.0 index rising.0, songs_rise store index rising.1)
 
 no_songs : (songs : Songs) → length songs ≡ 0 → songs ≡ []
 no_songs [] none = refl

@@ -5,7 +5,20 @@ use Rattle.hk_base.specs.declared.plain.Print.{Print}
 use Rattle.hk_base.specs.declared.plain.Match.{Match}
 use Rattle.hk_spec_matching.specs.Catalogue.{Song}
 use Rattle.hk_spec_matching.specs.Matching.{Query, match_at, is_hit, errors_of, MOST_ERRORS, query_for}
+use Rattle.hk_spec_matching.specs.Cost.{subsets, looked_up}
 use Rattle.hk_catalogue.specs.Shelves.{song_of}
+use Rattle.hk_probe.specs.declared.comparison.Block.{Block}
+
+-- the query that a block is
+abbrev pub query_in : Block → Query
+query_in block = query_for block.prints
+
+-- the subsets of a print's mask that a query flips, and the words that are so looked up
+abbrev pub subsets_for : Query → Print → List ℕ
+subsets_for query print = subsets print.mask
+
+abbrev pub words_for : Query → Print → List ℕ
+words_for query print = looked_up print
 
 -- the first print that hits, and the number of prints where none does
 abbrev pub first_hit : List Print → List ℕ → ℕ

@@ -3,8 +3,8 @@ ghost use Rattle.std.specs.Prelude.{◌≡◌, ◌≤◌, ◌+◌, ◌*◌, ◌^
 ghost use Rattle.std.specs.List.{All};
 ghost use Rattle.hk_spec_matching.specs.Catalogue.{Limits, edited_by};
 ghost use Rattle.hk_spec_matching.specs.Cost.{cost};
-ghost use Rattle.hk_block.specs.Ring.{is_full};
-ghost use Rattle.hk_block.specs.Looker.{matches_in, query_of};
+ghost use Rattle.hk_block.specs.Ring.{is_full, query_of};
+ghost use Rattle.hk_block.specs.Looker.{matches_in};
 ghost use Rattle.hk_catalogue.specs.Shelves.{songs_of, HasLimits};
 ghost use Rattle.hk_catalogue.specs.Shelf.{IsChange, changes_of};
 ghost use Rattle.hk_probe.specs.Single.{new_single, after_publish, publish_answer, shelf_of, looker_of};

@@ -1,19 +1,18 @@
 // A block against the places in the catalogue where its words stand.
 ghost use Rattle.std.specs.Prelude.{◌≡◌, ◌≤◌, ◌<◌, ◌+◌, ◌*◌, ◌++◌, length, IsTrue};
 ghost use Rattle.hk_spec_matching.specs.Cost.{cost};
-ghost use Rattle.hk_block.specs.Ring.{is_full};
-ghost use Rattle.hk_block.specs.Looker.{query_of, matches_in};
+ghost use Rattle.hk_block.specs.Ring.{is_full, query_of};
+ghost use Rattle.hk_block.specs.Looker.{matches_in};
 ghost use Rattle.hk_catalogue.specs.Shelves.{songs_of};
 ghost use Rattle.hk_catalogue.specs.CatalogueInside.{IsShelved};
-ghost use Rattle.hk_spec_matching.specs.Matching.{query_for};
+ghost use Rattle.hk_probe.specs.Comparison.{query_in};
 ghost use Rattle.hk_probe.specs.Search.{found_at, found_of, found_by, numbered, nodes_of, nodes_by, HaveSame};
 
-use crate::comparison::{BLOCK_SIZE, Block, first_match_at};
+use crate::comparison::{BLOCK_SIZE, Block};
 use hk_base::{Match, Steps};
 use hk_block::{BlockRing, Scratch};
 use hk_catalogue::Catalogue;
 use hk_table::Place;
-use hk_weak::Submasks;
 use std::sync::ledger::Ledger;
 
 /// Leaves the matches of the ring's last 256 prints in the catalogue's songs, by id and then by start. It visits the nodes in
@@ -35,7 +34,7 @@ pub fn look<L: Ledger>(
     if catalogue.count() == 0 {
         return;
     }
-    let block = Block::new(ring.prints());
+    let block = Block::of(ring);
     let mut window = [0; BLOCK_SIZE];
     for j in 0..BLOCK_SIZE {
         look_up_print(catalogue, j, &block, &mut window, scratch, steps);
@@ -54,13 +53,13 @@ fn look_up_print<L: Ledger>(
 )
     requires shelved { IsShelved catalogue.now }
     requires inside { j < 256 }
-    requires space { length scratch.old.matches + length (found_by (query_for block.now.prints) (songs_of catalogue.now) (numbered j block.now.prints)) ≤ scratch.old.room }
-    ensures found { HaveSame scratch.new.matches (scratch.old.matches ++ found_by (query_for block.now.prints) (songs_of catalogue.now) (numbered j block.now.prints)) }
+    requires space { length scratch.old.matches + length (found_by (query_in block.now) (songs_of catalogue.now) (numbered j block.now.prints)) ≤ scratch.old.room }
+    ensures found { HaveSame scratch.new.matches (scratch.old.matches ++ found_by (query_in block.now) (songs_of catalogue.now) (numbered j block.now.prints)) }
     ensures room { scratch.new.room ≡ scratch.old.room }
-    ensures ticks { steps.new ≤ steps.old + 257 * nodes_by catalogue.now.store.positions (songs_of catalogue.now) (numbered j block.now.prints).1 }
+    ensures ticks { steps.new ≤ steps.old + 257 * nodes_by catalogue.now.store.positions (query_in block.now) (songs_of catalogue.now) (numbered j block.now.prints).1 }
 {
     let print = block.prints[j];
-    for subset in Submasks::new(print.mask) {
+    for subset in block.subsets(print) {
         look_up_word(
             catalogue,
             print.word ^ subset,
@@ -85,8 +84,8 @@ fn look_up_word<L: Ledger>(
 )
     requires shelved { IsShelved catalogue.now }
     requires inside { j < 256 }
-    requires space { length scratch.old.matches + length (found_of (query_for block.now.prints) (songs_of catalogue.now) j word) ≤ scratch.old.room }
-    ensures found { HaveSame scratch.new.matches (scratch.old.matches ++ found_of (query_for block.now.prints) (songs_of catalogue.now) j word) }
+    requires space { length scratch.old.matches + length (found_of (query_in block.now) (songs_of catalogue.now) j word) ≤ scratch.old.room }
+    ensures found { HaveSame scratch.new.matches (scratch.old.matches ++ found_of (query_in block.now) (songs_of catalogue.now) j word) }
     ensures room { scratch.new.room ≡ scratch.old.room }
     ensures ticks { steps.new ≤ steps.old + 257 * nodes_of catalogue.now.store.positions (songs_of catalogue.now) word }
 {
@@ -108,7 +107,7 @@ fn found_at<L: Ledger>(
     steps: &mut Steps<L>,
 ) -> Option<Match>
     requires { j < 256 }
-    ensures found { result ≡ found_at (query_for block.now.prints) catalogue.now.store j place }
+    ensures found { result ≡ found_at (query_in block.now) catalogue.now.store j place }
     ensures ticks { steps.new ≤ steps.old + 256 }
 {
     let song = catalogue.song(place.slot)?;
@@ -117,5 +116,5 @@ fn found_at<L: Ledger>(
         return None;
     }
     song.window(start, window, steps);
-    first_match_at(j, song.id(), start, window, block)
+    block.first_match_at(j, song.id(), start, window)
 }

@@ -1,8 +1,9 @@
 -- Laws of published journals.
-use Rattle.std.proofs.Common.{◌≡◌, ℕ, ◌≤◌, [], ◌++◌, length, fold, cond, sym, ◌∙◌, ap, arith, Some, None, Bool, true, nat_le, inl, inr}
+use Rattle.std.proofs.Common.{◌≡◌, ℕ, ◌≤◌, [], ◌++◌, length, fold, cond, sym, ◌∙◌, ap, arith, Some, None, Bool, inl, inr}
 use Rattle.std.proofs.lemmas.Bool.Decides.{leb_tells}
 use Rattle.std.proofs.lemmas.List.{take_all, take-append-le}
 use Rattle.std.proofs.lemmas.Option.{none-some}
+use Rattle.std.proofs.lemmas.Bool.{le-leb}
 use mathlib.Core.List.{IsPrefix}
 use Rattle.hk_spec_matching.specs.Catalogue.{Songs, Limits, Journal, edited_by, version}
 use Rattle.hk_block.specs.Looker.{KeepsPast}
@@ -19,12 +20,9 @@ songs_at_longer : (limits : Limits) (xs ys : Journal) (v : ℕ) → v ≤ length
 unfolding version
 songs_at_longer limits xs ys v low = ap (fold (edited_by limits) []) (take-append-le v xs ys low)
 
-within : (a b : ℕ) → a ≤ b → nat_le a b ≡ true
-within a b low = elim (leb_tells a b) [ inl is ↦ is.0 | inr over ↦ absurd (omega (arith, low, over.1)) ]
-
 -- a version that is not above the journal's is known
 pub past_is : (limits : Limits) (xs : Journal) (v : ℕ) → v ≤ length xs → past_of_journal limits xs v ≡ Some (version limits xs v)
-past_is limits xs v low = ap (λ (b : Bool). cond b (Some (version limits xs v)) None) (within v (length xs) low)
+past_is limits xs v low = ap (λ (b : Bool). cond b (Some (version limits xs v)) None) (le-leb v (length xs) low)
 
 -- what is known of a version stays in a longer journal
 pub past_stays : (limits : Limits) (xs ys : Journal) → IsPrefix xs ys → KeepsPast (past_of_journal limits xs) (past_of_journal limits ys)

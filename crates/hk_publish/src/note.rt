@@ -17,9 +17,9 @@ pub struct Note {
 impl Model for Note {
     ghost use Rattle.std.specs.Prelude.{◌≡◌, length};
     ghost use Rattle.hk_publish.specs.Known.{home_of};
-    ghost use Rattle.hk_publish.specs.Told.{Told};
+    ghost use Rattle.hk_publish.specs.NoteView.{NoteView};
 
-    ghost Value = { Told };
+    ghost Value = { NoteView };
 
     ghost view = { λ n. record { home = home_of n.reached.book; journal = n.reached.journal } };
 

@@ -4,10 +4,9 @@ use Rattle.std.proofs.lemmas.List.{append-nil}
 use Rattle.std.proofs.lemmas.Bool.Decides.{leb_tells}
 use Rattle.hk_base.specs.declared.plain.Form.{Form}
 use Rattle.hk_spec_sound.specs.Prints.{full_analysis}
-use Rattle.hk_spec_streams.specs.Station.{segments, channels_of, factor_of}
+use Rattle.hk_spec_streams.specs.Station.{segments, channels_of, factor_of, heard_form}
 use Rattle.hk_spec_streams.specs.Blocks.{Setting, Block, blocks, blocks_of_segment}
 use Rattle.hk_spec_streams.proofs.GrowingBlocks.{blocks_in, blocks_are, blocks_in-last, no_prints, no_blocks}
-use Rattle.hk_station_wire.specs.Says.{heard_form}
 use Rattle.hk_station_wire.proofs.LastItems.{hello_segments}
 use Rattle.hk_station_wire.proofs.ItemLaws.{late_form}
 use Rattle.hk_receiver.specs.Segment.{prints_by}

@@ -3,12 +3,13 @@ use Rattle.std.proofs.Common.{◌≡◌, ℕ, ◌+◌, ◌<◌, List, [], ◌∷
 use Rattle.std.proofs.lemmas.List.{append-nil}
 use Rattle.hk_base.specs.declared.plain.Form.{Form}
 use Rattle.hk_spec_sound.specs.Prints.{full_analysis}
-use Rattle.hk_spec_streams.specs.Station.{segments, sent_prints}
+use Rattle.hk_spec_streams.specs.Station.{segments, sent_prints, heard_form}
 use Rattle.hk_station_wire.specs.LastPacket.{gap_is_open}
 use Rattle.hk_spec_streams.specs.Blocks.{Setting, Block, blocks, blocks_of_segment}
-use Rattle.hk_station_wire.specs.Says.{heard_form, GainsByte, KeepsSegments, BeginsGap, PartOfPrint, SaysNothing, SaysHello, SaysGap}
+use Rattle.hk_station_wire.specs.Says.{GainsByte, KeepsSegments, BeginsGap, PartOfPrint, SaysNothing, SaysHello, SaysGap}
 use Rattle.hk_receiver.specs.declared.segment.Segment.{Segment}
-use Rattle.hk_receiver.specs.Segment.{HasBytes, Gains, prints_by, block_in}
+use Rattle.hk_block.specs.Ring.{block_in}
+use Rattle.hk_receiver.specs.Segment.{HasBytes, Gains, prints_by}
 use Rattle.hk_receiver.specs.Kept.{HasSegments}
 use Rattle.hk_receiver.proofs.Blocks.{same_blocks, begun_blocks, grown_blocks, none_yet}
 use Rattle.hk_receiver.proofs.Segments.{gains_part}

@@ -3,13 +3,13 @@ use Rattle.std.proofs.Common.{◌≡◌, ℕ, suc, ◌<◌, ◌≤◌, List, [],
 use Rattle.std.proofs.lemmas.List.{append-nil}
 use Rattle.hk_base.specs.declared.plain.Form.{Form}
 use Rattle.hk_spec_sound.specs.Prints.{full_analysis}
-use Rattle.hk_spec_streams.specs.Station.{segments, station_fault, station_met}
+use Rattle.hk_spec_streams.specs.Station.{segments, station_fault, station_met, heard_form}
 use Rattle.hk_spec_streams.specs.Blocks.{blocks, blocks_of_segment}
 use Rattle.hk_spec_streams.proofs.NextFault.{fault_of-before}
 use Rattle.hk_spec_settings.specs.Settings.{Rules}
 use Rattle.hk_station_wire.specs.declared.item.Item.TheVariants as item
 use Rattle.hk_station_wire.specs.LastPacket.{gap_is_open}
-use Rattle.hk_station_wire.specs.Says.{heard_form, SaysByte}
+use Rattle.hk_station_wire.specs.Says.{SaysByte}
 use Rattle.hk_station_wire.specs.Sounding.{AreSound}
 use Rattle.hk_station_wire.proofs.ItemLaws.{item_tells}
 use Rattle.hk_receiver.specs.Quiet.{AreQuiet}

@@ -7,9 +7,8 @@ use Rattle.hk_base.specs.declared.plain.Print.{Print}
 use Rattle.hk_spec_sound.specs.Windows.{windows}
 use Rattle.hk_spec_streams.specs.Blocks.{Setting, Block, blocks_of_segment}
 use Rattle.hk_spec_streams.proofs.GrowingBlocks.{enumerate-append}
-use Rattle.hk_block.specs.Ring.{Ring, Takes, AddsBlock, PlacesBlock, BLOCK_SIZE, completes_block, first_word}
+use Rattle.hk_block.specs.Ring.{Ring, Takes, AddsBlock, PlacesBlock, BLOCK_SIZE, completes_block, first_word, block_in}
 use Rattle.hk_block.specs.Ring as rings
-use Rattle.hk_receiver.specs.Segment.{block_in}
 
 module _ (s : Setting) (n : ℕ) (old new : Ring) (p : Print) (prints : List Print) (size : s.block_size ≡ BLOCK_SIZE) (hop : old.hop ≡ s.hop)
     (takes : Takes old p new) (adds : AddsBlock old p new) (places : PlacesBlock old p new) (has : rings.HasLastPrints old prints) where

@@ -12,18 +12,18 @@ use Rattle.hk_spec_streams.specs.Blocks.{Setting, blocks_of_segment}
 use Rattle.hk_spec_streams.proofs.GrowingBlocks.{no_prints}
 use Rattle.hk_front.specs.Hearing.{Hearing, KeepsRules}
 use Rattle.hk_front.specs.Hearing as fronts
-use Rattle.hk_block.specs.Ring.{Takes, AddsBlock, PlacesBlock, completes_block}
+use Rattle.hk_block.specs.Ring.{Ring, Takes, AddsBlock, PlacesBlock, completes_block, block_in}
 use Rattle.hk_block.specs.Ring as rings
 use Rattle.hk_receiver.specs.declared.segment.Segment.{Segment}
-use Rattle.hk_receiver.specs.Segment.{IsFor, HasBytes, Hears, Gains, prints_by, block_in}
+use Rattle.hk_receiver.specs.Segment.{AreFor, HasBytes, Hears, Gains, prints_by}
 use Rattle.hk_receiver.proofs.RingBlocks.{ring_adds}
 
-pub still_for : (s : Setting) (flips hop : ℕ) {more next : ℕ} → IsFor s flips hop → more ≡ flips → next ≡ hop → IsFor s more next
-still_for s flips hop set same_flips same_hop = record {
-  block_size = set.block_size;
+-- another front and another ring that were made alike
+pub still_for : (s : Setting) {front more : Hearing} {ring next : Ring} → AreFor s front ring → more.flips ≡ front.flips → next.hop ≡ ring.hop → AreFor s more next
+still_for s set same_flips same_hop = record {
   analysis = set.analysis;
   flips_are = set.flips_are ∙ sym same_flips;
-  hop_is = set.hop_is ∙ sym same_hop;
+  cuts = record { block_size = set.cuts.block_size; hop_is = set.cuts.hop_is ∙ sym same_hop };
 }
 
 pub none_by : (s : Setting) (form : Form) → s.analysis ≡ full_analysis → prints_by s form [] ≡ []
@@ -62,7 +62,7 @@ module _ (s : Setting) (form : Form) (old : Segment) (bytes : List ℕ) (has : H
   pub goes_on : (new : Segment) → new.ring ≡ old.ring → new.front.flips ≡ old.front.flips → prints_by s form (bytes ++ b ∷ []) ≡ prints_by s form bytes
       → ((form.channels == 0) ≡ false → Hears s form new (bytes ++ b ∷ [])) → HasBytes s form new (bytes ++ b ∷ [])
   goes_on new same_ring same_flips same hears = record {
-    set = still_for s old.front.flips old.ring.hop has.set same_flips (ap (λ ring. ring.hop) same_ring);
+    set = still_for s has.set same_flips (ap (λ ring. ring.hop) same_ring);
     prints = subst (λ ring. rings.HasLastPrints ring (prints_by s form (bytes ++ b ∷ []))) (sym same_ring) (subst (rings.HasLastPrints old.ring) (sym same) has.prints);
     hears = hears;
   }
@@ -80,12 +80,12 @@ module _ (s : Setting) (form : Form) (old : Segment) (bytes : List ℕ) (has : H
       → new.front.flips ≡ old.front.flips → ((form.channels == 0) ≡ false → Hears s form new (bytes ++ b ∷ [])) → Gains s form old bytes b full new
   gains_print new p full same_number grown takes adds places is same_flips hears = record {
     goes_on = record {
-      set = still_for s old.front.flips old.ring.hop has.set same_flips takes.0;
+      set = still_for s has.set same_flips takes.0;
       prints = subst (rings.HasLastPrints new.ring) (sym grown) (takes.1 prints has.prints);
       hears = hears;
     };
     more_blocks = ap (blocks_of_segment s old.number) grown
-        ∙ ring_adds s old.number old.ring new.ring p prints has.set.block_size (sym has.set.hop_is) takes adds places has.prints
+        ∙ ring_adds s old.number old.ring new.ring p prints has.set.cuts.block_size (sym has.set.cuts.hop_is) takes adds places has.prints
         ∙ ap (λ c. blocks_of_segment s old.number prints ++ cond c (block_in old.number new.ring ∷ []) []) (sym is)
         ∙ ap (λ n. blocks_of_segment s old.number prints ++ cond full (block_in n new.ring ∷ []) []) (sym same_number);
   }
@@ -98,7 +98,7 @@ module _ (s : Setting) (form : Form) (old : Segment) (bytes more : List ℕ) (ha
   pub listens_on : (new : Segment) → new.ring ≡ old.ring → KeepsRules old.front new.front → fronts.HasAnalysed new.front (bytes ++ more)
       → prints_by s form (bytes ++ more) ≡ prints_by s form bytes → HasBytes s form new (bytes ++ more)
   listens_on new same_ring keeps taken same = record {
-    set = still_for s old.front.flips old.ring.hop has.set keeps.0 (ap (λ ring. ring.hop) same_ring);
+    set = still_for s has.set keeps.0 (ap (λ ring. ring.hop) same_ring);
     prints = subst (λ ring. rings.HasLastPrints ring (prints_by s form (bytes ++ more))) (sym same_ring) (subst (rings.HasLastPrints old.ring) (sym same) has.prints);
     hears = λ _. record {
       channels = keeps.1.0 ∙ (has.hears sound).channels;
@@ -108,7 +108,7 @@ module _ (s : Setting) (form : Form) (old : Segment) (bytes more : List ℕ) (ha
   }
 
 -- no byte yet, in this form
-pub empty : (s : Setting) (form : Form) (segment : Segment) → IsFor s segment.front.flips segment.ring.hop → rings.HasLastPrints segment.ring []
+pub empty : (s : Setting) (form : Form) (segment : Segment) → AreFor s segment.front segment.ring → rings.HasLastPrints segment.ring []
     → ((form.channels == 0) ≡ false → Hears s form segment []) → HasBytes s form segment []
 empty s form segment set none hears = record {
   set = set;

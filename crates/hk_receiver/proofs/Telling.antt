@@ -12,14 +12,13 @@ use Rattle.hk_spec_settings.specs.Settings.{Rules}
 use Rattle.hk_station_wire.specs.declared.item.Item.{Item}
 use Rattle.hk_station_wire.specs.declared.item.Item.TheVariants as item
 use Rattle.hk_station_wire.specs.Taken as wires
-use Rattle.hk_station_wire.specs.Items.{item_at}
-use Rattle.hk_station_wire.specs.Says.{Says, NoFault}
+use Rattle.hk_station_wire.specs.Items.{item_at, Says}
+use Rattle.hk_station_wire.specs.Says.{NoFault}
 use Rattle.hk_station_wire.proofs.ItemLaws.{item_tells}
-use Rattle.hk_block.specs.Ring.{BLOCK_SIZE}
+use Rattle.hk_block.specs.Ring.{BLOCK_SIZE, block_in}
 use Rattle.hk_receiver.specs.declared.receiver.Receiver.{Receiver}
 use Rattle.hk_receiver.specs.declared.receiver.Received.{Received}
 use Rattle.hk_receiver.specs.declared.receiver.Received.TheVariants as received
-use Rattle.hk_receiver.specs.Segment.{block_in}
 use Rattle.hk_receiver.specs.Received.{HasReceived, Brings, Tells, fences_at}
 use Rattle.hk_receiver.proofs.Holding.{Step}
 
@@ -28,7 +27,7 @@ module _ (rules : Rules) (old : Receiver) (text : List ℕ) (b : ℕ) (h : HasRe
   full = h.holds.has.set.analysis
 
   pub some : 0 < rules.setting.block_size
-  some = let size : rules.setting.block_size ≡ BLOCK_SIZE = h.holds.has.set.block_size in omega (arith, size)
+  some = let size : rules.setting.block_size ≡ BLOCK_SIZE = h.holds.has.set.cuts.block_size in omega (arith, size)
 
   -- what the wire's item says of the text
   pub said : (i : Item) → i ≡ item_at (wires.limit_of old.wire) (text ++ b ∷ []) → Says i rules.bytes text b

@@ -1,26 +1,15 @@
 -- What a receiver keeps of a text's segments.
 use Rattle.std.specs.Prelude.{◌≡◌, ℕ, if◌then◌else◌, List, [], ◌∷◌, ◌++◌, length}
-use Rattle.hk_spec_sound.specs.Prints.{full_analysis}
-use Rattle.hk_spec_streams.specs.Station.{segments}
+use Rattle.hk_spec_streams.specs.Station.{segments, heard_form}
 use Rattle.hk_station_wire.specs.LastPacket.{gap_is_open}
 use Rattle.hk_spec_streams.specs.Blocks.{Setting}
-use Rattle.hk_spec_settings.specs.Settings.{Rules}
-use Rattle.hk_station_wire.specs.Says.{heard_form}
-use Rattle.hk_block.specs.Ring.{BLOCK_SIZE, MOST_PRINTS}
+use Rattle.hk_block.specs.Ring.{MOST_PRINTS}
 use Rattle.hk_receiver.specs.declared.segment.Segment.{Segment}
 use Rattle.hk_receiver.specs.Segment.{HasBytes}
 
 -- the most bytes that a stream's limit may be
 abbrev pub MOST_BYTES : ℕ
 MOST_BYTES = MOST_PRINTS
-
--- Rules that a receiver can be made for: blocks of 256 prints, sound analysed in full, and these flips, hop and limit.
-pub record IsSetTo (rules : Rules) (flips hop limit : ℕ) : Type 0 where
-  pub block_size : rules.setting.block_size ≡ BLOCK_SIZE
-  pub analysis : rules.setting.analysis ≡ full_analysis
-  pub flips_are : rules.setting.flips ≡ flips
-  pub hop_is : rules.setting.hop ≡ hop
-  pub limit_is : rules.bytes ≡ limit
 
 -- What is kept of the text's segments: the number and the bytes of the last one. In a gap that is open the next segment has begun, and has no byte.
 pub record HasSegments (s : Setting) (segment : Segment) (text : List ℕ) : Type 0 where

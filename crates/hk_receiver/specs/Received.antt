@@ -4,11 +4,10 @@ use Rattle.hk_spec_streams.specs.Station.{Fence, station_fault, station_met, fen
 use Rattle.hk_spec_streams.specs.Blocks.{Block, blocks}
 use Rattle.hk_spec_settings.specs.Settings.{Rules}
 use Rattle.hk_station_wire.specs.Taken as wires
-use Rattle.hk_block.specs.Ring.{Ring}
+use Rattle.hk_block.specs.Ring.{Ring, block_in}
 use Rattle.hk_receiver.specs.declared.receiver.Receiver.{Receiver}
 use Rattle.hk_receiver.specs.declared.receiver.Received.{Received}
 use Rattle.hk_receiver.specs.declared.receiver.Received.TheVariants as received
-use Rattle.hk_receiver.specs.Segment.{block_in}
 use Rattle.hk_receiver.specs.Kept.{HasSegments}
 
 -- fences that end at a place
@@ -20,6 +19,10 @@ ring_of receiver = receiver.segment.ring
 
 abbrev pub segment_of : Receiver → ℕ
 segment_of receiver = receiver.segment.number
+
+-- the block that the last print of its ring completed
+abbrev pub block_of : Receiver → Block
+block_of receiver = block_in (segment_of receiver) (ring_of receiver)
 
 -- how many blocks the stream has brought
 abbrev pub block_count : Receiver → ℕ
@@ -47,6 +50,6 @@ pub record Brings (rules : Rules) (text : List ℕ) (byte : ℕ) (receiver : Rec
 -- what is told of a text's next byte
 abbrev pub Tells : Received → Rules → List ℕ → ℕ → Receiver → Type 0
 Tells received.Nothing rules text byte receiver = Brings rules text byte receiver [] []
-Tells received.Block rules text byte receiver = Brings rules text byte receiver (block_in (segment_of receiver) (ring_of receiver) ∷ []) []
+Tells received.Block rules text byte receiver = Brings rules text byte receiver (block_of receiver ∷ []) []
 Tells (received.Fence asked) rules text byte receiver = Brings rules text byte receiver [] (asked ∷ [])
 Tells (received.Fault fault) rules text byte receiver = station_met rules.bytes (text ++ byte ∷ []) ≡ Some fault

@@ -4,9 +4,9 @@ use Rattle.hk_base.specs.declared.plain.Form.{Form}
 use Rattle.hk_base.specs.declared.plain.Print.{Print}
 use Rattle.hk_spec_sound.specs.Prints.{full_analysis}
 use Rattle.hk_spec_streams.specs.Station.{prints_of}
-use Rattle.hk_spec_streams.specs.Blocks.{Setting, Block, blocks_of_segment}
+use Rattle.hk_spec_streams.specs.Blocks.{Setting, blocks_of_segment}
 use Rattle.hk_front.specs.Hearing as fronts
-use Rattle.hk_block.specs.Ring.{Ring, BLOCK_SIZE, first_word}
+use Rattle.hk_block.specs.Ring.{Ring, block_in}
 use Rattle.hk_block.specs.Ring as rings
 use Rattle.hk_receiver.specs.declared.segment.Segment.{Segment}
 
@@ -16,20 +16,15 @@ ring_in segment = segment.ring
 abbrev pub segment_number : Segment → ℕ
 segment_number segment = segment.number
 
--- Blocks of 256 prints, sound analysed in full, and these flips and hop.
-pub record IsFor (s : Setting) (flips hop : ℕ) : Type 0 where
-  pub block_size : s.block_size ≡ BLOCK_SIZE
+-- The front and the ring were made for this setting: sound is analysed in full.
+pub record AreFor (s : Setting) (front : fronts.Hearing) (ring : Ring) : Type 0 where
   pub analysis : s.analysis ≡ full_analysis
-  pub flips_are : s.flips ≡ flips
-  pub hop_is : s.hop ≡ hop
+  pub flips_are : s.flips ≡ front.flips
+  pub cuts : rings.IsFor s ring
 
 -- the prints of a segment of these bytes, in a stream of this form
 abbrev pub prints_by : Setting → Form → List ℕ → List Print
 prints_by s form bytes = prints_of s.analysis s.flips form.channels form.factor bytes
-
--- a block of segment n that the ring's last print completes
-abbrev pub block_in : ℕ → Ring → Block
-block_in n ring = record { segment = n; first = first_word ring; prints = ring.last }
 
 -- The front hears sound of the form, and has taken these bytes of it.
 pub record Hears (s : Setting) (form : Form) (segment : Segment) (bytes : List ℕ) : Type 0 where
@@ -39,7 +34,7 @@ pub record Hears (s : Setting) (form : Form) (segment : Segment) (bytes : List �
 
 -- The segment has taken these bytes of a stream of this form: the ring has their prints, and the front hears them where they are sound.
 pub record HasBytes (s : Setting) (form : Form) (segment : Segment) (bytes : List ℕ) : Type 0 where
-  pub set : IsFor s segment.front.flips segment.ring.hop
+  pub set : AreFor s segment.front segment.ring
   pub prints : rings.HasLastPrints segment.ring (prints_by s form bytes)
   pub hears : (form.channels == 0) ≡ false → Hears s form segment bytes
 

@@ -1,18 +1,19 @@
 // From a station's bytes to its blocks and fences.
-ghost use Rattle.std.specs.Prelude.{◌≡◌, ◌≤◌, ◌<◌, ◌+◌, ◌-◌, ◌^◌, ◌++◌, [], ℕ, List, length, take, IfOk, IsTrue, true, if◌then◌else◌};
+ghost use Rattle.std.specs.Prelude.{◌≡◌, ◌≤◌, ◌<◌, ◌+◌, ◌-◌, ◌^◌, ◌++◌, [], ℕ, List, length, take, IsTrue, true, if◌then◌else◌};
 ghost use Rattle.std.specs.Result.{result_err};
 ghost use Rattle.hk_spec_streams.specs.Station.{station_wrong};
+ghost use Rattle.hk_spec_streams.specs.Blocks.{head_of};
 ghost use Rattle.hk_spec_settings.specs.Settings.{Rules};
 ghost use Rattle.hk_station_wire.specs.Taken.{limit_of, count_taken};
-ghost use Rattle.hk_block.specs.Ring.{is_full};
-ghost use Rattle.hk_receiver.specs.Segment.{ring_in, segment_number};
-ghost use Rattle.hk_receiver.specs.Kept.{MOST_BYTES, IsSetTo};
+ghost use Rattle.hk_block.specs.Ring.{HasLastPrints, is_full};
+ghost use Rattle.hk_receiver.specs.Segment.{AreFor, ring_in, segment_number};
+ghost use Rattle.hk_receiver.specs.Kept.{MOST_BYTES};
 
 use crate::segment::Segment;
-use hk_base::{NoMemory, WireFault};
+use hk_base::{Head, WireFault};
 use hk_block::BlockRing;
+use hk_front::Front;
 use hk_station_wire::{Item, Wire};
-use std::alloc::Global;
 
 /// What a byte completes: nothing that is looked up, a block, a fence with the version that it asks for, or the stream's
 /// fault.
@@ -38,23 +39,21 @@ pub struct Receiver {
 }
 
 impl Receiver {
-    ghost use Rattle.hk_receiver.specs.Received.{HasReceived, Tells, ForEachText, ring_of, segment_of, block_count};
+    ghost use Rattle.hk_receiver.specs.Received.{HasReceived, Tells, ForEachText, ring_of, block_of, block_count};
     ghost use Rattle.hk_receiver.specs.Quiet.{AreQuiet};
 
-    /// A receiver before its first byte, of a stream of at most `limit` bytes. `flips` bits of a print of sound are weak,
-    /// and blocks begin `hop` prints apart. It takes all memory that it needs.
-    pub fn new(alloc: Global, flips: u32, hop: u32, limit: u64) -> Result<Receiver, NoMemory>
-        requires flips { flips ≤ 10 }
-        requires some { 1 ≤ hop }
-        requires most { hop ≤ 256 }
+    /// A receiver before its first byte, of a stream of at most `limit` bytes. The front hears its sound, and the ring, that
+    /// has no print yet, keeps its prints.
+    pub fn new(front: Front, ring: BlockRing, limit: u64) -> Receiver
+        requires none { HasLastPrints ring [] }
         requires limit { limit ≤ MOST_BYTES }
-        ensures { IfOk result (λ receiver. (rules : Rules) → IsSetTo rules flips hop limit → HasReceived rules receiver []) }
+        ensures { (rules : Rules) → AreFor rules.setting front ring → rules.bytes ≡ limit → HasReceived rules result [] }
     {
-        Ok(Receiver {
+        Receiver {
             wire: Wire::new(limit),
-            segment: Segment::new(alloc, flips, hop)?,
+            segment: Segment::new(front, ring),
             blocks: 0,
-        })
+        }
     }
 
     /// Takes the stream's next byte, and tells what it completes.
@@ -120,11 +119,19 @@ impl Receiver {
         self.segment.ring()
     }
 
-    /// The number of the present segment, which is that of the gaps before it.
-    pub fn segment(&self) -> u64
-        ensures { result ≡ segment_of self.now }
+    /// What the report of the block that the last print completed says before its list: it is a station's block with this
+    /// number, looked up at this version.
+    pub fn head(&self, station: u8, block: u64, version: u32) -> Head
+        requires { IsTrue (is_full (ring_of self.now)) }
+        ensures { result ≡ head_of station block (block_of self.now) version }
     {
-        self.segment.number()
+        Head {
+            station,
+            block,
+            segment: self.segment.number(),
+            first: self.ring().first_word(),
+            version,
+        }
     }
 }
 

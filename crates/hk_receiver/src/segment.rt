@@ -1,14 +1,13 @@
 // The present segment of a stream.
-ghost use Rattle.std.specs.Prelude.{◌≡◌, ◌≤◌, ◌<◌, ◌+◌, ◌^◌, ◌++◌, [], ◌∷◌, ◌==◌, ℕ, List, length, take, true, false, IsTrue, IfOk};
+ghost use Rattle.std.specs.Prelude.{◌≡◌, ◌≤◌, ◌<◌, ◌+◌, ◌^◌, ◌++◌, [], ◌∷◌, ◌==◌, ℕ, List, length, take, true, false, IsTrue};
 ghost use Rattle.hk_base.specs.declared.plain.Form.{Form};
 ghost use Rattle.hk_spec_streams.specs.Blocks.{Setting};
-ghost use Rattle.hk_spec_streams.specs.Station.{sent_prints};
-ghost use Rattle.hk_block.specs.Ring.{MOST_PRINTS, is_full};
+ghost use Rattle.hk_spec_streams.specs.Station.{MayTell, sent_prints};
+ghost use Rattle.hk_block.specs.Ring.{MOST_PRINTS, HasLastPrints, is_full};
 
-use hk_base::{Form, NoMemory, Print};
+use hk_base::{Form, Print};
 use hk_block::BlockRing;
 use hk_front::Front;
-use std::alloc::Global;
 
 /// The segment that a stream is in: its number, which is that of the gaps before it, its last prints, and the last
 /// samples of its sound.
@@ -20,29 +19,26 @@ pub struct Segment {
 }
 
 impl Segment {
-    ghost use Rattle.hk_receiver.specs.Segment.{IsFor, HasBytes, Gains, prints_by, ring_in, segment_number};
+    ghost use Rattle.hk_receiver.specs.Segment.{AreFor, HasBytes, Gains, prints_by, ring_in, segment_number};
 
-    /// The first segment of a stream, without a byte. It takes all memory that it needs.
-    pub fn new(alloc: Global, flips: u32, hop: u32) -> Result<Segment, NoMemory>
-        requires some { 1 ≤ hop }
-        requires most { hop ≤ 256 }
-        ensures empty { IfOk result (λ segment. (s : Setting) → IsFor s flips hop → HasBytes s (record { channels = 0; factor = 1 }) segment []) }
-        ensures first { IfOk result (λ segment. segment_number segment ≡ 0) }
-        ensures none { IfOk result (λ segment. (ring_in segment).count ≡ 0) }
+    /// The first segment of a stream, without a byte, which this front will hear and this ring, that has no print yet, will
+    /// keep.
+    pub fn new(front: Front, ring: BlockRing) -> Segment
+        requires none { HasLastPrints ring [] }
+        ensures empty { (s : Setting) → AreFor s front ring → HasBytes s (record { channels = 0; factor = 1 }) result [] }
+        ensures first { segment_number result ≡ 0 }
+        ensures none { (ring_in result).count ≡ 0 }
     {
-        Ok(Segment {
-            front: Front::new(alloc, flips)?,
-            ring: BlockRing::new(alloc, hop)?,
+        Segment {
+            front,
+            ring,
             number: 0,
-        })
+        }
     }
 
-    /// The stream tells its form, before the segment's first byte. A form of sound has one or two channels and a factor
-    /// of 1 to 8.
+    /// The stream tells its form, before the segment's first byte.
     pub fn start(&mut self, form: Form)
-        requires few_channels { form.channels ≤ 2 }
-        requires some_factor { 1 ≤ form.factor }
-        requires small_factor { form.factor ≤ 8 }
+        requires { MayTell form }
         ensures empty { (s : Setting) (before : Form) → HasBytes s before self.old [] → HasBytes s form self.new [] }
         ensures same_number { segment_number self.new ≡ segment_number self.old }
         ensures same_ring { ring_in self.new ≡ ring_in self.old }

@@ -1,8 +1,7 @@
 -- Bytes of a station's stream within its record, whatever they are.
-use Rattle.std.proofs.Common.{true, ◌≡◌, ℕ, ◌+◌, ◌-◌, ◌<◌, ◌≤◌, List, [], ◌∷◌, ◌++◌, length, map, refl, sym, ◌∙◌, ap, subst, arith, length-append, append-nil, append_assoc, inl, inr, false, Bool, cond}
-use Rattle.std.specs.Prelude.{◌==◌, ◌||◌, ◌&&◌, not, nat_lt}
-use Rattle.std.proofs.lemmas.Bool.{le-leb}
-use Rattle.std.proofs.lemmas.Bool.Decides.{eqb_tells}
+use Rattle.std.proofs.Common.{true, ◌≡◌, ℕ, ◌+◌, ◌-◌, ◌<◌, ◌≤◌, List, [], ◌∷◌, ◌++◌, length, map, refl, sym, ◌∙◌, ap, subst, arith, length-append, append-nil, append_assoc, false, Bool, cond}
+use Rattle.std.specs.Prelude.{◌||◌, ◌&&◌, not, nat_lt}
+use Rattle.std.proofs.lemmas.Bool.{le-leb, ne_eqb}
 use Rattle.hk_spec_streams.specs.Records.{STATION, Arrival, ForStation, arrivals, arrival_after, open_bytes}
 use Rattle.hk_spec_streams.proofs.GrowingRecords.{arrivals-append, open_bytes-append}
 use Rattle.hk_records.specs.Part.{IsPart, IsPartUnlessWhole, HasOwner, has_bad_head, left_ahead}
@@ -17,9 +16,6 @@ use Rattle.hk_records.proofs.Reading.{begins_there, some_open, stays_good}
 -- the reader with so many bytes more, of which the open record lacks so many
 abbrev pub ahead : RecordReader → ℕ → ℕ → ℕ → RecordReader
 ahead reader number count left = record reader { taken = reader.taken + count; part = parts.Body (owners.Station number) left }
-
-isnt : (a b : ℕ) → (a ≡ b → ⊥) → (a == b) ≡ false
-isnt a b other = elim (eqb_tells a b) [ inl same ↦ absurd (other same.1) | inr differ ↦ differ.0 ]
 
 neither : (a b x y z : Bool) → a ≡ false → b ≡ false → ((a && x) || ((b && y) && z)) ≡ false
 neither a b x y z first second = ap (λ t. (t && x) || ((b && y) && z)) first ∙ ap (λ t. (t && y) && z) second
@@ -39,8 +35,8 @@ module _ (reader : RecordReader) (number left : ℕ) (text : List ℕ) (b : ℕ)
 
   fine : has_bad_head reader.stations (open_bytes text ++ b ∷ []) ≡ false
   fine = ap (λ bytes. has_bad_head reader.stations (bytes ++ b ∷ [])) bytes_are
-      ∙ neither _ _ false true (not (nat_lt number reader.stations)) (isnt (length (STATION ∷ number ∷ open_is.0 ∷ open_is.1 ∷ open_is.2 ++ b ∷ [])) 1 (λ same. omega (arith, same)))
-      (isnt (length (STATION ∷ number ∷ open_is.0 ∷ open_is.1 ∷ open_is.2 ++ b ∷ [])) 2 (λ same. omega (arith, same)))
+      ∙ neither _ _ false true (not (nat_lt number reader.stations)) (ne_eqb (length (STATION ∷ number ∷ open_is.0 ∷ open_is.1 ∷ open_is.2 ++ b ∷ [])) 1 (λ same. omega (arith, same)))
+      (ne_eqb (length (STATION ∷ number ∷ open_is.0 ∷ open_is.1 ∷ open_is.2 ++ b ∷ [])) 2 (λ same. omega (arith, same)))
 
   rest_is : IsPartUnlessWhole (parts.Body (owners.Station number) (left - 1)) (open_bytes text ++ b ∷ [])
   rest_is =

@@ -1,10 +1,11 @@
 -- The order to make an input, from the line that is written.
-use Rattle.std.proofs.Common.{◌≡◌, ◌++◌, ℕ, List, [], refl, sym, ◌∙◌, ap, arith, inl, Bool, true, false, Option, Some, None}
+use Rattle.std.proofs.Common.{◌≡◌, ◌++◌, ℕ, List, [], refl, sym, ◌∙◌, ap, arith, inl, Bool, true, false, Option, Some}
 use Rattle.std.specs.Prelude.{Result, Ok, Err, option_map}
 use Rattle.hk_base.specs.Devices.{Took, Wrote}
 use Rattle.hk_base.specs.declared.source.Source.{Ghosts as Sources}
 use Rattle.hk_base.specs.declared.sink.Sink.{Ghosts as Sinks}
 use Rattle.hk_base.specs.declared.plain.NoMemory.{NoMemory}
+use Rattle.hk_base.proofs.Taking.{Took-nothing}
 use Rattle.hk_spec_settings.specs.Settings.{Rules}
 use Rattle.hk_spec_runs.specs.Make.{make_line}
 use Rattle.hk_spec_runs.specs.Replay.{replay}
@@ -15,11 +16,6 @@ use Rattle.hk_player.specs.declared.ending.Ending.TheVariants.{Whole, Stopped, R
 use Rattle.hk_replay.specs.Orders.{CarriesOut, HasMade}
 use Rattle.hk_replay.proofs.Doing.{whole_input}
 
--- nothing was taken
-took_nothing : (left : Option (List ℕ)) → Took [] left left
-took_nothing None = refl
-took_nothing (Some bytes) = refl
-
 -- the order is carried out where its line was written, and nothing read
 pub line_carries_out : {S K : Type 0} (source : Sources S) (sink : Sinks K) (seed : ℕ) (rules : Rules) (input : S) (out out' : K) (result : Result Ending NoMemory)
     → HasMade sink (make_line rules seed) result out out' → CarriesOut source sink (task_of (Make seed rules)) result input input out out'
@@ -27,7 +23,7 @@ line_carries_out source sink seed rules input out out' (Ok (Whole true)) made = 
   (
     [],
     make_line rules seed,
-    took_nothing (source.left input),
+    Took-nothing (source.left input),
     made.appended,
     record {
       to_the_end = λ reads. cc;
@@ -45,7 +41,7 @@ line_carries_out source sink seed rules input out out' (Ok SinkFault) made = (
   (
     [],
     made.front.0,
-    took_nothing (source.left input),
+    Took-nothing (source.left input),
     made.front.4,
     record {
       unread = λ is. refl;

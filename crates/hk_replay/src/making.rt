@@ -5,7 +5,7 @@ ghost use Rattle.hk_spec_lines.specs.Make.{made_line};
 ghost use Rattle.hk_spec_made.specs.Input.{make_input};
 ghost use Rattle.hk_spec_runs.specs.Make.{make_line};
 ghost use Rattle.hk_spec_runs.specs.Replay as runs;
-ghost use Rattle.hk_words.specs.Orders.{rules_meant, RulesFit};
+ghost use Rattle.hk_words.specs.Rules.{rules_meant, RulesFit};
 ghost use Rattle.hk_replay.specs.Orders.{HasMade};
 
 use crate::counts::{Counts, counts_of};

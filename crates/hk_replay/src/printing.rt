@@ -2,7 +2,7 @@
 ghost use Rattle.std.specs.Prelude.{◌≡◌, ◌<◌, []};
 ghost use Rattle.hk_spec_runs.specs.Outcome.{task_of};
 ghost use Rattle.hk_spec_runs.specs.Words.{Print};
-ghost use Rattle.hk_words.specs.Orders.{printing_meant, PrintingFits};
+ghost use Rattle.hk_words.specs.Rules.{printing_meant, PrintingFits};
 ghost use Rattle.hk_printer.specs.Printed.{HasPrinted, printing_of};
 ghost use Rattle.hk_player.specs.Endings.{Does};
 ghost use Rattle.hk_replay.specs.Orders.{CarriesOut};

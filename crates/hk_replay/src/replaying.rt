@@ -2,7 +2,7 @@
 ghost use Rattle.std.specs.Prelude.{◌≡◌, ◌<◌, []};
 ghost use Rattle.hk_spec_runs.specs.Outcome.{task_of};
 ghost use Rattle.hk_spec_runs.specs.Words.{Replay};
-ghost use Rattle.hk_words.specs.Orders.{rules_meant, RulesFit};
+ghost use Rattle.hk_words.specs.Rules.{rules_meant, RulesFit};
 ghost use Rattle.hk_run.specs.Playing.{HasPlayed};
 ghost use Rattle.hk_player.specs.Endings.{Does};
 ghost use Rattle.hk_replay.specs.Orders.{CarriesOut};

@@ -5,10 +5,9 @@ use Rattle.std.specs.List.{AllByRecursion}
 use Rattle.std.proofs.lemmas.List.{append_cancel_left}
 use Rattle.hk_base.specs.declared.plain.Head.{Head}
 use Rattle.hk_base.specs.declared.plain.Match.{Match}
-use Rattle.hk_spec_lines.specs.Lines.{NEWLINE, line, list_text}
-use Rattle.hk_report.specs.Pieces.{head_text}
-use Rattle.hk_report.specs.Reports.{HeadFits, ItemFits, IsReportOf, IsReport}
-use Rattle.hk_report.specs.LineReading.{IsDigit, IsCut, StopsBefore, LeavesWord, LeavesField, Behind, Numeral, Field, IsList, AreFields, MOST_8, MOST_32, MOST_64}
+use Rattle.hk_spec_lines.specs.Lines.{NEWLINE, HeadFits, head_text, line, list_text}
+use Rattle.hk_report.specs.Reports.{ItemFits, IsReportOf, IsReport}
+use Rattle.hk_report.specs.LineReading.{IsDigit, IsCut, StopsBefore, LeavesWord, LeavesField, Behind, Numeral, Field, IsList, MOST_8, MOST_32, MOST_64}
 use Rattle.hk_report.proofs.Numbers.{split_number}
 use Rattle.hk_report.proofs.Stopping.{FollowsNumber, behind_follows, field_follows, same_kind, stops_in_field, stops_after_field, stops_in_behind, stops_behind_front}
 use Rattle.hk_report.proofs.Items.{not_digit, same_list}
@@ -90,6 +89,25 @@ only_list_behind_head h fits t report =
     (report.1, p.items_fit, (split_head h report.0 t (list_text report.1 ++ NEWLINE) fits p.head_fits (p.spelled ∙ line_parts report.0 report.1)).1)
 
 -- a report line by its fields
+abbrev pub AfterVersion : List ℕ → Type 0
+AfterVersion t = Behind (codes ": ") IsList t
+
+abbrev pub AfterFirst : List ℕ → Type 0
+AfterFirst t = Field (codes " V ") MOST_32 AfterVersion t
+
+abbrev pub AfterSegment : List ℕ → Type 0
+AfterSegment t = Field (codes " W ") MOST_64 AfterFirst t
+
+abbrev pub AfterBlock : List ℕ → Type 0
+AfterBlock t = Field (codes " G ") MOST_64 AfterSegment t
+
+abbrev pub AfterStation : List ℕ → Type 0
+AfterStation t = Field (codes " B ") MOST_64 AfterBlock t
+
+-- a report line by its fields
+abbrev AreFields : List ℕ → Type 0
+AreFields t = Field (codes "S ") MOST_8 AfterStation t
+
 pub fields_of : (t : List ℕ) → IsReport t → AreFields t
 fields_of t report =
     let h : Head = report.0 in
@@ -146,21 +164,6 @@ fields_of t report =
         ),
       ),
     )
-
-abbrev pub AfterVersion : List ℕ → Type 0
-AfterVersion t = Behind (codes ": ") IsList t
-
-abbrev pub AfterFirst : List ℕ → Type 0
-AfterFirst t = Field (codes " V ") MOST_32 AfterVersion t
-
-abbrev pub AfterSegment : List ℕ → Type 0
-AfterSegment t = Field (codes " W ") MOST_64 AfterFirst t
-
-abbrev pub AfterBlock : List ℕ → Type 0
-AfterBlock t = Field (codes " G ") MOST_64 AfterSegment t
-
-abbrev pub AfterStation : List ℕ → Type 0
-AfterStation t = Field (codes " B ") MOST_64 AfterBlock t
 
 pub report_of : (t : List ℕ) → AreFields t → IsReport t
 report_of t h =

@@ -82,7 +82,3 @@ AreFurther text = (items : List Match) × AllByRecursion ItemFits items × (text
 -- a list, and the line's end
 abbrev pub IsList : List ℕ → Type 0
 IsList text = (items : List Match) × AllByRecursion ItemFits items × (text ≡ list_text items ++ NEWLINE)
-
--- a report line by its fields
-abbrev pub AreFields : List ℕ → Type 0
-AreFields text = Field (codes "S ") MOST_8 (Field (codes " B ") MOST_64 (Field (codes " G ") MOST_64 (Field (codes " W ") MOST_64 (Field (codes " V ") MOST_32 (Behind (codes ": ") IsList))))) text

@@ -2,7 +2,6 @@
 use Rattle.std.specs.Prelude.{ℕ, List, ◌++◌, decimal, codes}
 use Rattle.std.specs.Borrow.{Bor}
 use Rattle.std.specs.List.{flat_map}
-use Rattle.hk_base.specs.declared.plain.Head.{Head}
 use Rattle.hk_base.specs.declared.plain.Match.{Match}
 use Rattle.hk_spec_lines.specs.Lines.{numbered, match_text}
 use Rattle.hk_report.specs.declared.pieces.Piece.{Piece}
@@ -21,11 +20,6 @@ piece_text (NumberedTwice word m n) = numbered (numbered word.now m) n
 -- the pieces one after another
 abbrev pub pieces_text : List Piece → List ℕ
 pieces_text pieces = flat_map piece_text pieces
-
--- what a report line has before its list
-abbrev pub head_text : Head → List ℕ
-head_text head = numbered (codes "S") head.station ++ numbered (codes " B") head.block ++ numbered (codes " G") head.segment
-    ++ numbered (codes " W") head.first ++ numbered (codes " V") head.version ++ codes ": "
 
 -- items, each behind a space
 abbrev pub further_items : List Match → List ℕ

@@ -3,15 +3,7 @@ use Rattle.std.specs.Prelude.{◌≡◌, ℕ, ◌+◌, ◌^◌, ◌<◌, ◌≤�
 use Rattle.std.specs.List.{AllByRecursion}
 use Rattle.hk_base.specs.declared.plain.Head.{Head}
 use Rattle.hk_base.specs.declared.plain.Match.{Match}
-use Rattle.hk_spec_lines.specs.Lines.{line}
-
--- the numbers that a report line may have before its list
-pub record HeadFits (head : Head) : Type 0 where
-  pub station : head.station < 2 ^ 8
-  pub block : head.block < 2 ^ 64
-  pub segment : head.segment < 2 ^ 64
-  pub first : head.first < 2 ^ 64
-  pub version : head.version < 2 ^ 32
+use Rattle.hk_spec_lines.specs.Lines.{HeadFits, line}
 
 -- the numbers that an item may have
 pub record ItemFits (item : Match) : Type 0 where

@@ -7,6 +7,7 @@
 #![tactic(auto)]
 
 mod gathered;
+mod head;
 mod hexadecimal;
 mod line;
 mod made;

@@ -2,26 +2,11 @@
 ghost use Rattle.std.specs.Prelude.{◌≡◌, ◌++◌};
 ghost use Rattle.hk_base.specs.Writing.{Writes};
 ghost use Rattle.hk_spec_lines.specs.Lines.{line, list_text, match_text};
-ghost use Rattle.hk_report.specs.Pieces.{head_text, further_items};
+ghost use Rattle.hk_report.specs.Pieces.{further_items};
 
+use crate::head::write_head;
 use crate::pieces::{Piece, write_pieces};
 use hk_base::{Failed, Head, Match, Sink};
-
-fn write_head<K: Sink>(sink: &mut K, head: &Head) -> Result<(), Failed>
-    ensures { Writes K.Sink (head_text head.now) result sink.old sink.new }
-{
-    write_pieces(
-        sink,
-        &[
-            Piece::Numbered(b"S", head.station as u64),
-            Piece::Numbered(b" B", head.block),
-            Piece::Numbered(b" G", head.segment),
-            Piece::Numbered(b" W", head.first),
-            Piece::Numbered(b" V", head.version as u64),
-            Piece::Text(b": "),
-        ],
-    )
-}
 
 // Writes an item behind a separator.
 fn write_item<K: Sink>(sink: &mut K, separator: &[u8], item: &Match) -> Result<(), Failed>

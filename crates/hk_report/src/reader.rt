@@ -5,11 +5,12 @@ ghost use Rattle.std.specs.List.{AllByRecursion};
 ghost use Rattle.hk_base.specs.declared.plain.Head.{Head as AHead};
 ghost use Rattle.hk_base.specs.declared.plain.Match.{Match as AMatch};
 ghost use Rattle.hk_spec_lines.specs.Lines.{match_text, list_text, NEWLINE};
-ghost use Rattle.hk_report.specs.Pieces.{head_text, further_items};
-ghost use Rattle.hk_report.specs.Reports.{HeadFits, ItemFits, IsReportOf, IsReport, IsBadPlace};
+ghost use Rattle.hk_report.specs.Pieces.{further_items};
+ghost use Rattle.hk_report.specs.Reports.{ItemFits, IsReportOf, IsReport, IsBadPlace};
 ghost use Rattle.hk_report.specs.LineReading.{IsCut, ItemField, AreFurther, IsList, StopsBefore};
 
-use crate::read::{Misfit, comes_next, read_field, read_last, read_word};
+use crate::head::read_head;
+use crate::read::{Misfit, comes_next, read_field, read_last};
 use hk_base::{Head, Match};
 use std::alloc::Global;
 
@@ -85,28 +86,6 @@ fn read_list(alloc: Global, bytes: &[u8]) -> Result<Option<Vec<Match>>, Misfit<'
         Ok(kept) => Ok(kept),
         Err(misfit) => Err(misfit),
     }
-}
-
-// Reads what a report line has before its list.
-fn read_head(bytes: &[u8]) -> Result<(Head, &[u8]), Misfit<'_>>
-    ensures fits { IfOk result (λ read. HeadFits read.0) }
-    ensures found { IfOk result (λ read. bytes.now ≡ head_text read.0 ++ read.1.now) }
-    ensures misfit { IfErr result (λ misfit. StopsBefore IsReport bytes.now misfit.left.now) }
-{
-    let (station, rest) = read_field(bytes, b"S ", u8::MAX as u64)?;
-    let (block, rest) = read_field(rest, b" B ", u64::MAX)?;
-    let (segment, rest) = read_field(rest, b" G ", u64::MAX)?;
-    let (first, rest) = read_field(rest, b" W ", u64::MAX)?;
-    let (version, rest) = read_field(rest, b" V ", u32::MAX as u64)?;
-    let rest = read_word(rest, b": ")?;
-    let head = Head {
-        station: station as u8,
-        block,
-        segment,
-        first,
-        version: version as u32,
-    };
-    Ok((head, rest))
 }
 
 /// Reads one report line with its newline, and gives its parts. `BadLine(p)` comes where the text is none: the first

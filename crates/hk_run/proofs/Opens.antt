@@ -14,9 +14,8 @@ use Rattle.hk_spec_runs.specs.Listening.{unheard}
 use Rattle.hk_operator.specs.OnShelf.{IsOnShelf}
 use Rattle.hk_operator.specs.Sound.{IsFixed}
 use Rattle.hk_operator.specs.Obeying.{IsObeying, new_stream}
-use Rattle.hk_receiver.specs.Kept.{IsSetTo}
-use Rattle.hk_words.specs.Orders.{rules_meant, RulesFit}
-use Rattle.hk_words.specs.declared.order.RunRules.{RunRules}
+use Rattle.hk_words.specs.Rules.{rules_meant, RulesFit}
+use Rattle.hk_words.specs.declared.rules.RunRules.{RunRules}
 use Rattle.hk_run.specs.Holding.{AreHearing}
 use Rattle.hk_run.specs.Playing.{HasPlayed}
 use Rattle.hk_run.specs.declared.run.Run.{Run}
@@ -46,7 +45,3 @@ opens r run fits read limit stations hears obeys = record {
   holds = record { hears = hears; obeys = obeys };
   settled = none_settled (rules_meant r);
 }
-
--- the rules of a run are such that stations can be made for
-pub is_set : (r : RunRules) → IsSetTo (rules_meant r) r.flips r.hop r.bytes
-is_set r = record { block_size = refl; analysis = refl; flips_are = refl; hop_is = refl; limit_is = refl }

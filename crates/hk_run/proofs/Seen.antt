@@ -4,26 +4,17 @@ use Rattle.std.specs.Option.{option_map_or, option_or}
 use Rattle.std.proofs.lemmas.List.{take-append-le, take_all}
 use Rattle.hk_spec_streams.specs.Pieces.{first_met, fault_of, seen_of}
 use Rattle.hk_spec_streams.proofs.FirstFault.{first_met-append, first_met-more, fault_of-none}
+use Rattle.hk_spec_streams.proofs.NextFault.{no_fault, seen_of-all}
 
 -- Bytes behind a text without a fault: the part of the whole that is seen begins with the text.
 module _ {F : Type 0} (met : List ℕ → Option F) where
-  pub no_first : (text : List ℕ) → fault_of met text ≡ None → first_met met text ≡ None
-  no_first text none = from (first_met met text) none
-    where
-      from : (o : Option (ℕ × F)) → option_map (λ (m : ℕ × F). m.1) o ≡ None → o ≡ None
-      from None e = refl
-      from (Some m) e = cc
-
-  pub seen_whole : (text : List ℕ) → fault_of met text ≡ None → seen_of met text ≡ text
-  seen_whole text none = ap (λ o. option_map_or (λ (m : ℕ × F). take m.0 text) o text) (no_first text none)
-
   -- a byte that meets a fault, whatever follows it
   pub stops_at : (text : List ℕ) (x : ℕ) (more : List ℕ) (f : F) → fault_of met text ≡ None → met (text ++ x ∷ []) ≡ Some f
       → first_met met (text ++ x ∷ more) ≡ Some (length text, f)
   stops_at text x more f none meets =
       let first : first_met met (text ++ x ∷ []) ≡ Some (length text, f) =
       first_met-append met text x
-      ∙ ap (λ o. option_or o (option_map (λ fault. (length text, fault)) (met (text ++ x ∷ [])))) (no_first text none)
+      ∙ ap (λ o. option_or o (option_map (λ fault. (length text, fault)) (met (text ++ x ∷ [])))) (no_fault met (first_met met text) none)
       ∙ ap (option_map (λ fault. (length text, fault))) meets in
       ap (first_met met) (sym (append_assoc text (x ∷ []) more)) ∙ first_met-more met (length text, f) (text ++ x ∷ []) more first
 
@@ -38,7 +29,7 @@ module _ {F : Type 0} (met : List ℕ → Option F) where
       ∙ take-append-le (length text) text (x ∷ more) (omega arith) ∙ take_all (length text) text (omega arith)
 
   pub seen-more : (text more : List ℕ) → fault_of met text ≡ None → (c : List ℕ) × (seen_of met (text ++ more) ≡ text ++ c)
-  seen-more text [] none = ([], ap (seen_of met) (append-nil text) ∙ seen_whole text none ∙ sym (append-nil text))
+  seen-more text [] none = ([], ap (seen_of met) (append-nil text) ∙ seen_of-all met text none ∙ sym (append-nil text))
   seen-more text (x ∷ more) none = by (met (text ++ x ∷ [])) refl (λ good. seen-more (text ++ x ∷ []) more good)
     where
       by : (o : Option F) → met (text ++ x ∷ []) ≡ o → (fault_of met (text ++ x ∷ []) ≡ None → (c : List ℕ) × (seen_of met ((text ++ x ∷ []) ++ more) ≡ (text ++ x ∷ []) ++ c))

@@ -19,8 +19,9 @@ use Rattle.hk_records.specs.declared.reader.Came.{Came}
 use Rattle.hk_records.specs.declared.reader.RecordReader.{RecordReader}
 use Rattle.hk_base.proofs.Taking.{Wrote-nothing}
 use Rattle.hk_player.specs.Playing.{Adds, TearsBehind, StopsBehind}
-use Rattle.hk_words.specs.Orders.{rules_meant}
-use Rattle.hk_words.specs.declared.order.RunRules.{RunRules}
+use Rattle.hk_player.proofs.Steps.{regrouped}
+use Rattle.hk_words.specs.Rules.{rules_meant}
+use Rattle.hk_words.specs.declared.rules.RunRules.{RunRules}
 use Rattle.hk_run.specs.Course.{scene_after, printed_for}
 use Rattle.hk_run.specs.Holding.{Holds}
 use Rattle.hk_run.specs.Playing.{HasPlayed, IsSettled, AddsScene, AddsSceneFront}
@@ -87,9 +88,6 @@ module _ (rules : Rules) (run : Run) (refused text : List ℕ) (byte : ℕ) (h :
             front.4,
           ),
     )
-      where
-        regrouped : (t f m r : List ℕ) → (t ++ (f ++ m)) ++ r ≡ t ++ (f ++ (m ++ r))
-        regrouped t f m r = simp append_assoc
 
     pub adds_none : (w : Option (List ℕ)) → next.printed ≡ (scene_after rules refused text).printed → Adds (task_of (Replay rules)) refused text refused' (text ++ byte ∷ []) w w
     adds_none w same = adds_all w w ([], same ∙ sym (append-nil (scene_after rules refused text).printed), Wrote-nothing w)

@@ -2,17 +2,17 @@
 use Rattle.std.proofs.Common.{◌≡◌, [], ℕ, List, ◌++◌, refl, ◌∙◌, ap, None}
 use Rattle.hk_spec_streams.specs.Pieces.{pieces_within, seen_of}
 use Rattle.hk_spec_streams.specs.Records.{arrivals, input_met}
+use Rattle.hk_spec_streams.proofs.NextFault.{seen_of-all}
 use Rattle.hk_spec_settings.specs.Settings.{Rules}
 use Rattle.hk_spec_runs.specs.Outcome.{task_of, has_ended}
 use Rattle.hk_spec_runs.specs.Replay.{scene_of, replay, summary}
 use Rattle.hk_spec_runs.specs.Words.{Replay}
 use Rattle.hk_run.specs.Course.{scene_after, printed_for}
 use Rattle.hk_records.proofs.Reading.{no_text}
-use Rattle.hk_run.proofs.Seen.{seen_whole}
 
 module _ (rules : Rules) (refused text : List ℕ) (fine : (task_of (Replay rules)).met text ≡ None) where
   seen_is : {A : Type 0} (f : List ℕ → A) → f (seen_of (input_met rules.stations rules.bytes) text) ≡ f text
-  seen_is f = ap f (seen_whole (input_met rules.stations rules.bytes) text fine)
+  seen_is f = ap f (seen_of-all (input_met rules.stations rules.bytes) text fine)
 
   -- bytes without a fault are all seen
   pub text_is : (task_of (Replay rules)).text text refused ≡ printed_for rules refused text

@@ -1,6 +1,6 @@
 // Stations before their first byte.
 ghost use Rattle.std.specs.Prelude.{◌≡◌, ◌≤◌, IfOk, length, replicate};
-ghost use Rattle.hk_words.specs.Orders.{rules_meant, RulesFit};
+ghost use Rattle.hk_words.specs.Rules.{rules_meant, RulesFit};
 ghost use Rattle.hk_spec_runs.specs.Listening.{unheard};
 ghost use Rattle.hk_run.specs.Holding.{AreHearing};
 

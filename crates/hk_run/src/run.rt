@@ -6,7 +6,7 @@ ghost use Rattle.hk_spec_streams.specs.Records.{ForStation};
 ghost use Rattle.hk_spec_runs.specs.OperatorState.{IsReply, after};
 ghost use Rattle.hk_spec_runs.specs.Replay.{arrived};
 ghost use Rattle.hk_operator.specs.Obeying.{stream_after, new_commands};
-ghost use Rattle.hk_words.specs.Orders.{rules_meant, RulesFit};
+ghost use Rattle.hk_words.specs.Rules.{rules_meant, RulesFit};
 ghost use Rattle.hk_run.specs.Course.{heard_by, operator_ended, taken_of};
 
 use crate::opening::open_stations;

@@ -1,51 +1,16 @@
 // A few stations by hand. The link, the log, the station and the view of number n all tell n, and the gate of worker w fails its
 // watch number w.
-ghost use Rattle.std.specs.Prelude.{◌≡◌, ◌≤◌, ◌<◌, [], Some, None, true, All, IfOk, length, vec_capacity};
+ghost use Rattle.std.specs.Prelude.{◌≡◌, ◌≤◌, ◌<◌, [], All, IfOk, length, vec_capacity};
 ghost use Rattle.hk_seating.specs.Seating.{HasSeated};
 
 use crate::{Bench, seat_all, unseat_all};
-use hk_base::{MemorySink, Sink, Steps};
-use hk_block::{BlockRing, Looker, Scratch};
+use hk_base::{MemorySink, Print, Sink};
+use hk_block::{Looker, NoSongs, Scratch};
 use hk_monitor::Crewman;
 use hk_outside::{Gate, Link, LinkGot, MemoryGate, MemoryLink};
 use hk_station::Station;
 use std::alloc::Global;
-use std::sync::ledger::Ledger;
 use std::test::Fail;
-
-// No songs, at a version of its own.
-#[derive(Drop)]
-struct NoSongs {
-    version: u32,
-}
-
-impl Looker for NoSongs {
-    ghost looker = { λ s. record {
-      at = s.version;
-      past = λ v. Some [];
-      songs = [];
-      room = 0;
-      shown = None;
-      shelf = None;
-      still = true;
-      home = None;
-    } };
-
-    #[tactic(auto, unfolding(hk_spec_matching::specs::Matching::matches))]
-    fn look<L: Ledger>(
-        &mut self,
-        ring: &BlockRing,
-        scratch: &mut Scratch,
-        steps: &mut Steps<L>,
-    ) -> u32 {
-        scratch.clear();
-        self.version
-    }
-
-    fn now(&mut self) -> u32 {
-        self.version
-    }
-}
 
 type TestBench = Bench<MemoryLink, MemorySink, NoSongs>;
 
@@ -123,6 +88,7 @@ fn views(alloc: Global, stations: u8) -> Result<Vec<NoSongs>, Fail>
     for number in 0..stations {
         views.push(NoSongs {
             version: number as u32,
+            block: [Print { word: 0, mask: 0 }; 256],
         })?;
     }
     Ok(views)

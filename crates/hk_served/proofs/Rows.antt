@@ -1,6 +1,6 @@
 -- All seats of a worker.
 use Rattle.std.proofs.Common.{◌≡◌, ◌<◌, inl, inr, ℕ, zero, suc, true, false, Some, List, [], ◌∷◌, length, slice_index_or, refl, sym, ◌∙◌, ap, arith, All}
-use Rattle.hk_base.specs.declared.plain.End.{End}
+use Rattle.hk_account.proofs.Course.{end_is}
 use Rattle.hk_base.specs.declared.plain.End.TheVariants as ends
 use Rattle.hk_base.specs.declared.sink.Sink as sinks
 use Rattle.hk_outside.specs.declared.link.Link as links
@@ -9,7 +9,7 @@ use Rattle.hk_spec_runs.specs.Listening.{unheard}
 use Rattle.hk_spec_monitor.specs.Run.{Heard}
 use Rattle.hk_spec_monitor.specs.Causes.{is_gate_fault}
 use Rattle.hk_block.specs.declared.looker.Looker as lookers
-use Rattle.hk_station.specs.Hearing.{IsHearing}
+use Rattle.hk_station.specs.Hearing.{IsHearing, kept_end}
 use Rattle.hk_loop.specs.declared.seat.Seat.{Seat}
 use Rattle.hk_loop.specs.Serving.{HasServed}
 use Rattle.hk_loop.specs.Rows.{GateCounts}
@@ -21,8 +21,16 @@ an_item : {A : Type 0} (xs : List A) (i : ℕ) → i < length xs → A
 an_item [] i inside = absurd (omega (arith, inside))
 an_item (x ∷ xs) i inside = x
 
-same_end : (x y : End) → Some x ≡ Some y → x ≡ y
-same_end x y same = cc
+-- The gate's count rose only where it ended some station, so where these are the ends and none is by the gate it stayed.
+pub gate_stays : {K S V : Type 0} (gate gate' : ℕ) (nows : List (Seat K S V)) (heard : List Heard) → length heard ≡ length nows
+    → ((i : ℕ) (d : Seat K S V) (e : Heard) → i < length nows → kept_end (slice_index_or nows i d).station ≡ Some (slice_index_or heard i e).end)
+    → GateCounts gate gate' nows → All (λ h. is_gate_fault h.end ≡ false) heard → gate' ≡ gate
+gate_stays gate gate' nows heard one_each ends_are (inl same) none = same
+gate_stays {K = K} {S = S} {V = V} gate gate' nows heard one_each ends_are (inr (rose, i, inside, ended)) none =
+    let d : Seat K S V = an_item nows i inside in
+    let e : Heard = an_item heard i (omega (arith, inside, one_each)) in
+    let is : ends.GateFault ≡ (slice_index_or heard i e).end = end_is ends.GateFault ((slice_index_or heard i e).end) (sym (ended d) ∙ ends_are i d e inside) in
+    absurd (let no : true ≡ false = ap is_gate_fault is ∙ none i e (omega (arith, inside, one_each)) in cc)
 
 module _ {K S V : Type 0} (link : links.Ghosts K) (sink : sinks.Ghosts S) (looker : lookers.Ghosts V) (rules : Rules) (gate gate' : ℕ) where
   -- these did so, each at its place
@@ -44,17 +52,6 @@ module _ {K S V : Type 0} (link : links.Ghosts K) (sink : sinks.Ghosts S) (looke
       let rest = each_did xs ys (λ i d inside. new (suc i) d (omega (arith, inside))) (omega (arith, same)) (λ i d inside. served (suc i) d (omega (arith, inside))) in
       (first.0 ∷ rest.0, ap suc rest.1, with_first x y xs ys first.0 rest.0 first.1 rest.2)
 
-  -- the gate's count rose only where it ended some station
-  stayed : (firsts nows : List (Seat K S V)) (heard : List Heard) → length nows ≡ length firsts → length heard ≡ length firsts → EachDid firsts nows heard
-      → GateCounts gate gate' nows → All (λ h. is_gate_fault h.end ≡ false) heard → gate' ≡ gate
-  stayed firsts nows heard as_many one_each did (inl same) none = same
-  stayed firsts nows heard as_many one_each did (inr (rose, i, inside, ended)) none =
-      let d : Seat K S V = an_item nows i inside in
-      let e : Heard = an_item heard i (omega (arith, inside, as_many, one_each)) in
-      let this = did i d e (omega (arith, inside, as_many)) in
-      let is : ends.GateFault ≡ (slice_index_or heard i e).end = same_end ends.GateFault ((slice_index_or heard i e).end) (sym (ended d) ∙ this.end) in
-      absurd (let no : true ≡ false = ap is_gate_fault is ∙ none i e (omega (arith, inside, as_many, one_each)) in cc)
-
 module _ {K S V : Type 0} (link : links.Ghosts K) (sink : sinks.Ghosts S) (looker : lookers.Ghosts V) where
   pub all_served_since_new : AllServedSinceNew link sink looker
   all_served_since_new rules gate gate' firsts nows new served counts =
@@ -64,6 +61,7 @@ module _ {K S V : Type 0} (link : links.Ghosts K) (sink : sinks.Ghosts S) (looke
           as_many = served.as_many;
           one_each = found.1;
           seats = found.2;
-          gate_stayed = stayed link sink looker rules gate gate' firsts nows found.0 served.as_many found.1 found.2 counts;
+          gate_stayed = gate_stays gate gate' nows found.0 (found.1 ∙ sym served.as_many)
+              (λ i d e inside. (found.2 i d e (omega (arith, inside, served.as_many))).end) counts;
         },
       )

@@ -19,7 +19,7 @@ pub struct Numeral {
 
 pub const STATIONS: Numeral = Numeral {
     name: "stations",
-    values: hk_limits::STATIONS,
+    values: Range::STATIONS,
     default: 1,
 };
 
@@ -31,37 +31,37 @@ pub const WORKERS: Numeral = Numeral {
 
 pub const FLIPS: Numeral = Numeral {
     name: "flips",
-    values: hk_limits::FLIPS,
+    values: Range::FLIPS,
     default: 4,
 };
 
 pub const HOP: Numeral = Numeral {
     name: "hop",
-    values: hk_limits::HOP,
+    values: Range::HOP,
     default: 64,
 };
 
 pub const SONGS: Numeral = Numeral {
     name: "songs",
-    values: hk_limits::SONGS,
+    values: Range::SONGS,
     default: 1000,
 };
 
 pub const POSITIONS: Numeral = Numeral {
     name: "positions",
-    values: hk_limits::POSITIONS,
+    values: Range::POSITIONS,
     default: 1048576,
 };
 
 pub const VERSIONS: Numeral = Numeral {
     name: "versions",
-    values: hk_limits::VERSIONS,
+    values: Range::VERSIONS,
     default: 1000000,
 };
 
 pub const BYTES: Numeral = Numeral {
     name: "bytes",
-    values: hk_limits::BYTES,
+    values: Range::BYTES,
     default: 1000000000000,
 };
 

@@ -1,11 +1,15 @@
 -- Two stations, an operator and a run for the worked examples: blocks of two prints, and songs of two words.
-use Rattle.std.specs.Prelude.{ℕ, List, [], ◌∷◌, ◌++◌, codes}
+use Rattle.std.specs.Prelude.{ℕ, List, [], ◌∷◌, ◌++◌, None, codes}
 use Rattle.hk_base.specs.declared.plain.What.TheVariants.{Done, Published}
 use Rattle.hk_base.specs.declared.plain.End.TheVariants as ends
 use Rattle.hk_base.specs.declared.plain.OpEnd.TheVariants as op_ends
 use Rattle.hk_spec_streams.specs.Examples.{prints_hello, print_packet}
 use Rattle.hk_spec_settings.specs.Settings.{Rules}
 use Rattle.hk_spec_runs.specs.Examples.{SMALL, OPERATOR_BYTES, STATION_BYTES, SONGS_7, FOUND_5}
+use Rattle.hk_outside.specs.Doors.{Doorway, Pair}
+use Rattle.hk_outside.specs.declared.door.Call.{Call}
+use Rattle.hk_outside.specs.declared.door.Held.TheVariants.{Inside}
+use Rattle.hk_outside.specs.declared.door.Start.{Start}
 use Rattle.hk_spec_monitor.specs.Run.{Heard, Obeyed, Run}
 use Rattle.hk_spec_monitor.specs.Setup.{Setup}
 
@@ -51,3 +55,10 @@ RUN = record { stations = LATE ∷ EARLY ∷ []; operator = OBEYED; journal = SO
 -- what two stations and one worker are set to
 abbrev pub SETUP : Setup
 SETUP = record { rules = TWO; workers = 1; address = codes "127.0.0.1"; station_port = 7701; operator_port = 7702; logs = codes "station" }
+
+-- a door with this start and these calls, of whose objects nothing is told
+abbrev pub UNTOLD : Pair
+UNTOLD = record { held = Inside; gives = record { bytes = None; faults = 0 }; takes = record { bytes = None; faults = 0 } }
+
+abbrev pub door_with : Start → List Call → Doorway
+door_with start calls = record { start = start; plan = None; faults = 0; calls = calls; stations = λ n. UNTOLD; operator = UNTOLD; gates = λ w. record { held = Inside; faults = 0 } }

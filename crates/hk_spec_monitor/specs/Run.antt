@@ -7,7 +7,7 @@ use Rattle.hk_base.specs.declared.plain.End.TheVariants as ends
 use Rattle.hk_base.specs.declared.plain.OpEnd.{OpEnd}
 use Rattle.hk_base.specs.declared.plain.OpEnd.TheVariants as op_ends
 use Rattle.hk_spec_streams.specs.Station.{station_used}
-use Rattle.hk_spec_streams.specs.Blocks.{Block, Moment, blocks, moments}
+use Rattle.hk_spec_streams.specs.Blocks.{Block, Moment, head_of, blocks, moments}
 use Rattle.hk_spec_streams.specs.Operator.{Command, commands, operator_seen}
 use Rattle.hk_spec_matching.specs.Catalogue.{Songs, Journal, Rise, version}
 use Rattle.hk_spec_matching.specs.Matching.{matches}
@@ -73,9 +73,7 @@ songs_seen rules journal past v = if nat_le v (length journal) then version rule
 
 -- what a line of a station's numbered block reports
 abbrev pub reported_line : ℕ → ℕ × Block → Reported → Printed
-reported_line station numbered r =
-    let block = numbered.1 in
-    Report (record { station = station; block = numbered.0; segment = block.segment; first = block.first; version = r.version }) r.list
+reported_line station numbered r = Report (head_of station numbered.0 numbered.1 r.version) r.list
 
 module _ (rules : Rules) where
   -- the bytes that a station used, and what they complete

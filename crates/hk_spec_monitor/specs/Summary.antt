@@ -1,5 +1,5 @@
 -- The summary of a run, and its status.
-use Rattle.std.specs.Prelude.{◌≡◌, ℕ, nat_lt, if◌then◌else◌, Bool, true, false, ◌&&◌, List, [], ◌++◌, length, flat_map, find, Option, map, is_some}
+use Rattle.std.specs.Prelude.{◌≡◌, ℕ, ◌<◌, nat_lt, if◌then◌else◌, Bool, true, false, ◌&&◌, List, [], ◌++◌, length, flat_map, find, Option, map, is_some}
 use Rattle.std.specs.Option.{option_map_or}
 use Rattle.std.specs.List.{enumerate_from, list_all}
 use Rattle.hk_base.specs.Devices.{Rose, Wrote}
@@ -61,7 +61,7 @@ abbrev pub status_of : Run → Bool → ℕ
 status_of run whole =
     if is_some (mismatch run) then MISMATCH else if whole then (if all_ended run then ENDED else IN_DISORDER) else WRITE_FAULT
 
--- The run's status, and its summary as it was written: whole, or a front of it where a write failed.
+-- The run's status, and its summary as it was written: whole, or a front of it, and not all, where a write failed.
 pub record Concludes (code : ℕ) (written written' : Option (List ℕ)) (count count' : ℕ) (run : Run) : Type 0 where
   pub whole : Bool
   pub status : code ≡ status_of run whole
@@ -70,4 +70,5 @@ pub record Concludes (code : ℕ) (written written' : Option (List ℕ)) (count 
   pub text : summary run ≡ front ++ missing
   pub writes : Wrote front written written'
   pub all : whole ≡ true → (missing ≡ []) × (count' ≡ count)
+  pub proper : whole ≡ false → 0 < length missing
   pub failed : whole ≡ false → Rose count count'

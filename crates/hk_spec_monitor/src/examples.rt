@@ -2,7 +2,7 @@
 ghost use Rattle.std.specs.Prelude.{◌≡◌, [], ◌∷◌, ◌++◌, codes, true, false, Some, None, option_map};
 ghost use Rattle.hk_outside.specs.declared.door.Ask.TheVariants as asks;
 ghost use Rattle.hk_spec_monitor.specs.Setup.{setup_of};
-ghost use Rattle.hk_spec_monitor.specs.Devices.{opening};
+ghost use Rattle.hk_spec_monitor.specs.Devices.{asks_in_order};
 ghost use Rattle.hk_spec_streams.specs.Blocks.{Full, Asks};
 ghost use Rattle.hk_spec_runs.specs.Examples.{SMALL, BLOCK_5, SONGS_7};
 ghost use Rattle.hk_spec_monitor.specs.Looks.{versions_of_blocks, until_block, last_version};
@@ -66,5 +66,5 @@ pub fn setup_examples()
 
 /// What opens a run, in its order.
 pub fn opening_example()
-    ensures { opening SETUP ≡ asks.Station 0 ∷ asks.Station 1 ∷ asks.Operator ∷ asks.Gate 0 ∷ [] }
+    ensures { asks_in_order SETUP ≡ asks.Station 0 ∷ asks.Station 1 ∷ asks.Operator ∷ asks.Gate 0 ∷ [] }
 {}

@@ -17,7 +17,7 @@ use Rattle.hk_spec_settings.specs.Settings.{Rules}
 use Rattle.hk_spec_runs.specs.Replay.{Listener, heard, new_blocks}
 use Rattle.hk_spec_runs.specs.Listening.{Instant, IfLooked, blocks_gained, lines_gained, looks_gained, after_one, after, lines_for, steps_for, steps_gained, lines_over, looks_over, steps_over, AreKnown, KeepsBlocks, Gives}
 
-looked_still : (looks : List ℕ) (P Q : Type 0) → (P → Q) → IfLooked looks P → IfLooked looks Q
+pub looked_still : (looks : List ℕ) (P Q : Type 0) → (P → Q) → IfLooked looks P → IfLooked looks Q
 looked_still [] P Q f p = tt
 looked_still (v ∷ looks) P Q f p = f p
 

@@ -5,8 +5,6 @@ use Rattle.std.specs.List.{enumerate_from}
 use Rattle.std.proofs.lemmas.Bool.{lt-ltb, le-ltb}
 use Rattle.std.proofs.lemmas.Grind.{flat_map-append}
 use Rattle.std.proofs.lemmas.List.{length-map}
-use Rattle.hk_base.specs.declared.plain.WireFault.{WireFault}
-use Rattle.hk_base.specs.declared.plain.End.{End}
 use Rattle.hk_spec_matching.specs.Catalogue.{Songs}
 use Rattle.hk_spec_sound.specs.Windows.{windows}
 use Rattle.hk_spec_streams.specs.Pieces.{completed, pieces_within}
@@ -15,6 +13,7 @@ use Rattle.hk_spec_streams.specs.Grammar.{packets}
 use Rattle.hk_spec_streams.specs.Blocks.{Setting, Block, blocks, blocks_of_segment}
 use Rattle.hk_spec_streams.proofs.Completed.{completed-more}
 use Rattle.hk_spec_streams.proofs.GrowingBlocks.{enumerate-append, blocks-last, no_blocks}
+use Rattle.hk_spec_streams.proofs.Optional.{none_or_some}
 use Rattle.hk_spec_lines.specs.Lines.{printed_text}
 use Rattle.hk_spec_settings.specs.Settings.{Rules}
 use Rattle.hk_spec_runs.specs.Replay.{Listener, report_in, lines_at}
@@ -70,9 +69,9 @@ module _ (rules : Rules) where
         → Used l i
 
   used_next : (l : Listener) (i : Instant) → Used l i
-  used_next l i = elim (ended l.end) [
+  used_next l i = elim (none_or_some l.end) [
     | inr some ↦ Stays (ap (λ (m : Listener). m.used) (next_over rules l i some.0 some.1))
-    | inl going ↦ elim (met_or (station_met rules.bytes (l.used ++ i.byte ∷ []))) [
+    | inl going ↦ elim (none_or_some (station_met rules.bytes (l.used ++ i.byte ∷ []))) [
       | inr fault ↦ Stays (ap (λ (m : Listener). m.used) (next_fault rules l i going fault.0 fault.1))
       | inl none ↦ Goes (goes_on going none)
           (ap (λ e. cond (is_some e) [] (cond (is_some (station_met rules.bytes (l.used ++ i.byte ∷ []))) [] (rest i))) going ∙ ap (λ o. cond (is_some o) [] (rest i)) none)
@@ -81,14 +80,6 @@ module _ (rules : Rules) where
     where
       rest : Instant → List ℕ
       rest i = map (λ block. i.version) (completed (blocks rules.setting) (l.used ++ i.byte ∷ [])) ++ map (λ fence. i.version) (completed fences (l.used ++ i.byte ∷ []))
-
-      ended : (e : Option End) → (e ≡ None) ⊎ ((end : End) × (e ≡ Some end))
-      ended None = inl refl
-      ended (Some end) = inr (end, refl)
-
-      met_or : (o : Option WireFault) → (o ≡ None) ⊎ ((fault : WireFault) × (o ≡ Some fault))
-      met_or None = inl refl
-      met_or (Some fault) = inr (fault, refl)
 
       goes_on : l.end ≡ None → station_met rules.bytes (l.used ++ i.byte ∷ []) ≡ None → (after_one rules l i).used ≡ l.used ++ i.byte ∷ []
       goes_on going none = ap (λ (m : Listener). m.used) (next_on rules l i going none)

@@ -1,8 +1,11 @@
--- The options of the command line, one row an option.
+-- The options of the command line, one row an option, and what they set.
 use Rattle.std.specs.Prelude.{ℕ, Bool, true, false, List, [], ◌∷◌, filter, codes}
 use Rattle.hk_spec_sound.specs.Limits as limits
 use Rattle.hk_spec_sound.specs.Limits.{Range, is_within}
+use Rattle.hk_spec_sound.specs.Prints.{full_analysis}
 use Rattle.hk_spec_streams.specs.Pieces.{is_one_of}
+use Rattle.hk_spec_matching.specs.Matching.{MOST_ERRORS}
+use Rattle.hk_spec_settings.specs.Settings.{Rules}
 
 -- the values that an option may have
 pub data Values : Type 0 where
@@ -60,6 +63,26 @@ FACTOR = record { name = codes "--factor"; values = OneOf limits.FACTORS; defaul
 
 abbrev pub OPTIONS : List Choice
 OPTIONS = STATIONS ∷ MADE_STATIONS ∷ FLIPS ∷ HOP ∷ SONGS ∷ POSITIONS ∷ VERSIONS ∷ BYTES ∷ CHANNELS ∷ FACTOR ∷ []
+
+-- the rules of a run, by the value of each option, with this option for its stations
+abbrev pub rules_by : (Choice → ℕ) → Choice → Rules
+rules_by value stations = record {
+  setting = record { analysis = full_analysis; flips = value FLIPS; block_size = 256; hop = value HOP };
+  errors = MOST_ERRORS;
+  limits = record { songs = value SONGS; positions = value POSITIONS; versions = value VERSIONS };
+  stations = value stations;
+  bytes = value BYTES;
+}
+
+-- sound as prints, of so many bytes at most
+pub record Printing : Type 0 where
+  pub channels : ℕ
+  pub factor : ℕ
+  pub flips : ℕ
+  pub bytes : ℕ
+
+abbrev pub printing_by : (Choice → ℕ) → Printing
+printing_by value = record { channels = value CHANNELS; factor = value FACTOR; flips = value FLIPS; bytes = value BYTES }
 
 -- the commands
 pub data Verb : Type 0 where

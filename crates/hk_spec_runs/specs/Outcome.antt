@@ -12,7 +12,8 @@ use Rattle.hk_spec_streams.specs.Operator.{operator_wrong}
 use Rattle.hk_spec_lines.specs.Lines.{print_line, trouble_line}
 use Rattle.hk_spec_settings.specs.Settings.{Rules}
 use Rattle.hk_spec_runs.specs.Replay.{Scene, scene_of, out, replay}
-use Rattle.hk_spec_runs.specs.Words.{Order, Replay, Print, Make, Printing}
+use Rattle.hk_spec_runs.specs.Options.{Printing}
+use Rattle.hk_spec_runs.specs.Words.{Order, Replay, Print, Make}
 use Rattle.hk_spec_runs.specs.Make.{make_line}
 
 -- What an order makes of the input's bytes. The last argument of a text, and of its end, lists the commands that were refused for

@@ -39,7 +39,7 @@ module _ {F : Type 0} (met : List ℕ → Option F) where
         | inr here ↦ omega (arith, here, long)
       ])
 
-  no_fault : (o : Option (ℕ × F)) → option_map (λ m. m.1) o ≡ None → o ≡ None
+  pub no_fault : (o : Option (ℕ × F)) → option_map (λ m. m.1) o ≡ None → o ≡ None
   no_fault None is = refl
   no_fault (Some m) is = absurd (cc)
 

@@ -6,17 +6,16 @@ use Rattle.hk_base.specs.declared.plain.WireFault.{WireFault}
 use Rattle.hk_base.specs.declared.plain.End.{End}
 use Rattle.hk_base.specs.declared.plain.End.TheVariants as ends
 use Rattle.hk_spec_streams.specs.Station.{Fence, station_met}
-use Rattle.hk_spec_streams.specs.Blocks.{Block, blocks}
+use Rattle.hk_spec_streams.specs.Blocks.{Block, blocks, head_of}
 use Rattle.hk_spec_matching.specs.Catalogue.{Songs}
 use Rattle.hk_spec_matching.specs.Cost.{cost}
 use Rattle.hk_spec_lines.specs.Lines.{line, printed_text}
 use Rattle.hk_spec_runs.specs.Replay.{report_in}
 use Rattle.hk_spec_runs.specs.Listening.{Instant, IfLooked, blocks_gained, lines_for, steps_for, after_one, Gives, GivesOne}
 use Rattle.hk_spec_runs.proofs.Listening.{next_over, Gives-over, next_fault, Gives-fault, next_goes, blocks_goes, looks_goes, Gives-goes}
-use Rattle.hk_block.specs.Looker.{LookerView, Past, matches_in, query_of, most_steps}
-use Rattle.hk_block.specs.Ring.{Ring, first_word}
+use Rattle.hk_block.specs.Looker.{LookerView, Past, matches_in, most_steps}
+use Rattle.hk_block.specs.Ring.{Ring, query_of, first_word, block_in}
 use Rattle.hk_receiver.specs.declared.receiver.Receiver.{Receiver}
-use Rattle.hk_receiver.specs.Segment.{block_in}
 use Rattle.hk_receiver.specs.Received.{HasReceived, Brings, ForEachText, fences_at}
 use Rattle.hk_station.specs.declared.station.Station.{Station}
 use Rattle.hk_station.specs.Hearing.{IsHearing, ForEach}
@@ -103,8 +102,8 @@ module _ (i : Instant) (old : Station) (receiver : Receiver) (more : List Block)
 -- the line of one block
 pub one_line : (number v n segment : ℕ) (ring : Ring) (songs : Songs)
     → lines_for number v songs (enumerate_from n (block_in segment ring ∷ []))
-    ≡ line (record { station = number; block = n; segment = segment; first = first_word ring; version = v }) (matches_in ring songs)
-one_line number v n segment ring songs = append-nil (line (record { station = number; block = n; segment = segment; first = first_word ring; version = v }) (matches_in ring songs))
+    ≡ line (head_of number n (block_in segment ring) v) (matches_in ring songs)
+one_line number v n segment ring songs = append-nil (line (head_of number n (block_in segment ring) v) (matches_in ring songs))
 
 -- the most steps of its look
 pub steps_of_one : (ring : Ring) (view view' : LookerView) (segment n ticks ticks' : ℕ) → view'.room ≡ view.room → ticks' ≤ ticks + most_steps ring view'

@@ -1,6 +1,6 @@
 -- Bytes that complete nothing, and the listener that hears them.
-use Rattle.std.proofs.Common.{◌≡◌, ◌+◌, ℕ, List, [], ◌∷◌, ◌++◌, length, refl, sym, ◌∙◌, ap, subst, append-nil, append_assoc, take, take-add, arith, true, false, Option, None, Some}
-use Rattle.std.specs.Prelude.{slice_range, is_some}
+use Rattle.std.proofs.Common.{◌≡◌, ◌+◌, ℕ, List, [], ◌∷◌, ◌++◌, length, refl, sym, ◌∙◌, ap, subst, append-nil, append_assoc, take, take-add, arith, None}
+use Rattle.std.specs.Prelude.{slice_range}
 use Rattle.std.proofs.lemmas.List.{map-append, take_rest}
 use Rattle.hk_base.specs.declared.sink.Sink as sinks
 use Rattle.hk_base.proofs.Writing.{written-nothing}
@@ -78,11 +78,6 @@ module _ (rules : Rules) (view : LookerView) (station : ℕ) where
       (Gives-quiet rules l (instant view b) going quiet.0 station view.room view.past)
       (subst (λ (m : Listener). Gives rules station view.room m (instants_at view bytes) [] [] 0 view.past) (sym (next_quiet rules l (instant view b) going quiet.0))
       (all_quiet bytes (further l (b ∷ [])) going quiet.1))
-
--- a test for an end that isn't there
-pub not_some : {A : Type 0} (o : Option A) → is_some o ≡ false → o ≡ None
-not_some None none = refl
-not_some (Some x) none = absurd (let odd : true ≡ false = none in cc)
 
 module _ {V K : Type 0} {looker : lookers.Ghosts V} {sink : sinks.Ghosts K} where
   -- a station that heard bytes which complete nothing

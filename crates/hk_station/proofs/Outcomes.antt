@@ -6,10 +6,6 @@ use Rattle.hk_station.specs.declared.station.Progress.{Progress}
 use Rattle.hk_station.specs.declared.station.Progress.TheVariants.{Going, Over}
 use Rattle.hk_station.specs.Outcome.{progress_of}
 
-pub ok_as : {T E Q : Type 0} (r : Result T E) → Q → OnOk r Q
-ok_as (Ok x) q = q
-ok_as (Err e) q = tt
-
 pub ok_both : {T E P Q R : Type 0} (r : Result T E) → (P → Q → R) → OnOk r P → OnOk r Q → OnOk r R
 ok_both (Ok x) f p q = f p q
 ok_both (Err e) f p q = tt

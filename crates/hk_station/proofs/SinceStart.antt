@@ -12,8 +12,8 @@ use Rattle.hk_spec_streams.specs.Blocks.{Block, blocks}
 use Rattle.hk_spec_streams.proofs.Completed.{completed-more}
 use Rattle.hk_spec_settings.specs.Settings.{Rules}
 use Rattle.hk_spec_runs.specs.Replay.{Listener, lines_at}
-use Rattle.hk_spec_runs.specs.Listening.{Instant, IfLooked, bytes_in, unheard, blocks_gained, looks_gained, after_one, after, looks_over, versions_over, AreKnown, songs_in, Gives, GivesOne, IsLogOf}
-use Rattle.hk_spec_runs.proofs.Listening.{after-append, looks_over-append, next_on}
+use Rattle.hk_spec_runs.specs.Listening.{Instant, bytes_in, unheard, blocks_gained, looks_gained, after_one, after, looks_over, versions_over, AreKnown, songs_in, Gives, GivesOne, IsLogOf}
+use Rattle.hk_spec_runs.proofs.Listening.{after-append, looks_over-append, next_on, looked_still}
 use Rattle.hk_spec_runs.proofs.Logs.{writes_log, next_line}
 use Rattle.hk_block.specs.Looker.{Past, KeepsPast, Looks}
 use Rattle.hk_block.specs.declared.looker.Looker as lookers
@@ -25,15 +25,11 @@ use Rattle.hk_station.specs.SinceStart.{PiecesJoin, TornJoins, LogSinceStart, To
 use Rattle.hk_station.proofs.Feeding.{HasHeard-append}
 use Rattle.hk_station.proofs.UsedBytes.{uses_bytes}
 
-looked_later : (looks : List ℕ) (P Q : Type 0) → (P → Q) → IfLooked looks P → IfLooked looks Q
-looked_later [] P Q f p = tt
-looked_later (v ∷ looks) P Q f p = f p
-
 module _ (rules : Rules) where
   known_later : (l : Listener) (instants : List Instant) (before now : Past) → KeepsPast before now → AreKnown rules l instants before → AreKnown rules l instants now
   known_later l [] before now keeps known = tt
   known_later l (i ∷ rest) before now keeps known = (
-    looked_later (looks_gained rules i.version l i.byte) (before i.version ≡ Some i.songs) (now i.version ≡ Some i.songs) (keeps i.version i.songs) known.0,
+    looked_still (looks_gained rules i.version l i.byte) (before i.version ≡ Some i.songs) (now i.version ≡ Some i.songs) (keeps i.version i.songs) known.0,
     known_later (after_one rules l i) rest before now keeps known.1,
   )
 

@@ -1,5 +1,5 @@
 -- What a station used of the bytes that it was given.
-use Rattle.std.proofs.Common.{◌≡◌, ◌≤◌, ◌<◌, ◌+◌, ℕ, List, [], ◌∷◌, ◌++◌, map, length, take, refl, sym, ◌∙◌, ap, subst, arith, append_assoc, append-nil, length-append, ◌⊎◌, inl, inr, Bool, true, false, cond, Option, Some, None, option_map}
+use Rattle.std.proofs.Common.{◌≡◌, ◌≤◌, ◌<◌, ◌+◌, ℕ, List, [], ◌∷◌, ◌++◌, map, length, take, refl, sym, ◌∙◌, ap, subst, arith, append_assoc, append-nil, length-append, inl, inr, Bool, true, false, cond, Option, Some, None, option_map}
 use Rattle.std.specs.Prelude.{⊤, find, nat_lt, ◌==◌, ◌&&◌, unwrap_or, is_some, slice_index, drop}
 use Rattle.std.specs.Int.{w32, from_be_bytes}
 use Rattle.std.specs.Option.{option_map_or}
@@ -16,6 +16,7 @@ use Rattle.hk_spec_streams.specs.Station.{FENCE, Fence, fences, station_met, sta
 use Rattle.hk_station_wire.specs.LastPacket.{last_packet}
 use Rattle.hk_spec_streams.specs.Blocks.{blocks}
 use Rattle.hk_spec_streams.proofs.NextFault.{seen_of-all, fault_of-none, fault_of-some, fault_of-stays}
+use Rattle.hk_spec_streams.proofs.Optional.{none_or_some}
 use Rattle.hk_station_wire.proofs.GrowingFences.{fence_in, fences-append, fences_completed}
 use Rattle.hk_station_wire.proofs.WellFormed.{fits, no_open_fence}
 use Rattle.hk_spec_settings.specs.Settings.{Rules}
@@ -60,10 +61,6 @@ found_still a (f ∷ fs) gs fence is = elim (eqb_tells f.asked a) [
 last_rises : {A : Type 0} (from w to : ℕ) (xs : List A) → Rise from (map (λ x. w) xs ++ w ∷ []) to → (from ≤ w) × (w ≤ to)
 last_rises from w to [] rise = rise
 last_rises from w to (x ∷ xs) rise = let rest : (w ≤ w) × (w ≤ to) = last_rises w w to xs rise.1 in (rise.0, rest.1)
-
-one_or_none : {A : Type 0} (o : Option A) → (o ≡ None) ⊎ ((x : A) × (o ≡ Some x))
-one_or_none None = inl refl
-one_or_none (Some x) = inr (x, refl)
 
 module _ (rules : Rules) where
   fences_more : (text : List ℕ) (b : ℕ) → station_fault rules.bytes text ≡ None → fences (text ++ b ∷ []) ≡ fences text ++ fence_in (length text) (last_packet (text ++ b ∷ []))
@@ -118,7 +115,7 @@ module _ (rules : Rules) where
   -- one byte more
   step : (l : Listener) (bytes : List ℕ) (v to : ℕ) (i : Instant) → State l bytes v → Rise v (looks_gained rules i.version l i.byte) to → State (after_one rules l i) (bytes ++ i.byte ∷ []) to
   step l bytes v to i (Goes going same none met) rise = subst (λ t. State (after_one rules l i) (t ++ i.byte ∷ []) to) same
-      (elim (one_or_none (station_met rules.bytes (l.used ++ i.byte ∷ []))) [
+      (elim (none_or_some (station_met rules.bytes (l.used ++ i.byte ∷ []))) [
         | inr fault ↦
             let next = next_fault rules l i going fault.0 fault.1 in
             let is = fault_of-some (station_met rules.bytes) l.used i.byte fault.0 none_used fault.1 in
@@ -136,11 +133,11 @@ module _ (rules : Rules) where
       subst (λ m. State m (bytes ++ i.byte ∷ []) to) (sym (next_over rules l i (ends.Wire fault) ended)) (Fails fault ended stays.0 (stays.1 ∙ seen))
   step l bytes v to i (Waits asked found fence rest ended seen fine is place) rise =
       subst (λ m. State m (bytes ++ i.byte ∷ []) to) (sym (next_over rules l i (ends.FenceAhead asked found) ended))
-      (elim (one_or_none (station_fault rules.bytes bytes)) [
+      (elim (none_or_some (station_fault rules.bytes bytes)) [
         | inr fault ↦
             let stays = fault_of-stays (station_met rules.bytes) bytes i.byte fault.0 fault.1 in
             Waits asked found fence rest ended (stays.1 ∙ seen) fine is place
-        | inl none ↦ elim (one_or_none (station_met rules.bytes (bytes ++ i.byte ∷ []))) [
+        | inl none ↦ elim (none_or_some (station_met rules.bytes (bytes ++ i.byte ∷ []))) [
           | inr fault ↦
               let meets = fault_of-some (station_met rules.bytes) bytes i.byte fault.0 none fault.1 in
               Waits asked found fence rest ended (meets.1 ∙ sym (seen_of-all (station_met rules.bytes) bytes none) ∙ seen) fine is place

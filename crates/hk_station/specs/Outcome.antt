@@ -1,11 +1,7 @@
 -- What the hearing of a byte comes to.
-use Rattle.std.specs.Prelude.{ℕ, ⊤, OnOk, OnErr, Option, Some, None, Result, Ok, Err}
+use Rattle.std.specs.Prelude.{⊤, OnOk, OnErr, Option, Some, None, Result, Ok, Err}
 use Rattle.hk_base.specs.declared.plain.End.{End}
 use Rattle.hk_base.specs.declared.plain.End.TheVariants as ends
-use Rattle.hk_base.specs.declared.plain.Head.{Head}
-use Rattle.hk_block.specs.Ring.{first_word}
-use Rattle.hk_receiver.specs.Received.{segment_of, ring_of}
-use Rattle.hk_station.specs.declared.station.Station.{Station}
 use Rattle.hk_station.specs.declared.station.Progress.{Progress}
 use Rattle.hk_station.specs.declared.station.Progress.TheVariants.{Going, Over}
 
@@ -30,7 +26,3 @@ OnTorn progress P = OnErr (log_result progress) P
 -- a fact where none did
 abbrev pub UnlessTorn : Progress → Type 0 → Type 0
 UnlessTorn progress P = OnOk (log_result progress) P
-
--- what the line of the ring's block says before its list
-abbrev pub head_at : Station → ℕ → Head
-head_at station v = record { station = station.number; block = station.lines; segment = segment_of station.receiver; first = first_word (ring_of station.receiver); version = v }

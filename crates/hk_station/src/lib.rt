@@ -7,6 +7,7 @@
 #![tactic(auto)]
 
 mod laws;
+mod prefix;
 mod station;
 #[cfg(test)]
 mod tests;
@@ -14,4 +15,5 @@ mod tests;
 pub use hk_base::{End, NoMemory, Sink, Steps};
 pub use hk_block::{Looker, Scratch};
 pub use laws::{log_since_start, pieces_join};
+pub use prefix::blocks_of_prefix;
 pub use station::{Progress, Station};

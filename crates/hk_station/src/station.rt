@@ -3,19 +3,21 @@ ghost use Rattle.std.specs.Prelude.{◌≡◌, ◌≤◌, ◌<◌, ◌+◌, [], 
 ghost use Rattle.hk_base.specs.Writing.{Writes};
 ghost use Rattle.hk_base.specs.declared.plain.End.{End};
 ghost use Rattle.hk_base.specs.declared.plain.End.TheVariants as ends;
-ghost use Rattle.hk_spec_streams.specs.Blocks.{blocks};
+ghost use Rattle.hk_spec_sound.specs.Prints.{full_analysis};
+ghost use Rattle.hk_spec_streams.specs.Blocks.{blocks, head_of};
 ghost use Rattle.hk_spec_lines.specs.Lines.{line};
 ghost use Rattle.hk_spec_settings.specs.Settings.{Rules};
 ghost use Rattle.hk_spec_runs.specs.Replay.{end_of};
 ghost use Rattle.hk_spec_runs.specs.Listening.{Instant, bytes_in, unheard};
 ghost use Rattle.hk_block.specs.Ring.{is_full};
 ghost use Rattle.hk_block.specs.Looker.{Looks, matches_in, most_steps};
-ghost use Rattle.hk_receiver.specs.Kept.{MOST_BYTES, IsSetTo};
-ghost use Rattle.hk_receiver.specs.Received.{block_count, ring_of};
+ghost use Rattle.hk_receiver.specs.Kept.{MOST_BYTES};
+ghost use Rattle.hk_receiver.specs.Received.{block_count, block_of, ring_of};
 ghost use Rattle.hk_receiver.specs.Quiet.{AreQuiet};
 
-use hk_base::{End, Head, NoMemory, Sink, Steps};
-use hk_block::{Looker, Scratch};
+use hk_base::{End, NoMemory, Sink, Steps};
+use hk_block::{BlockRing, Looker, Scratch};
+use hk_front::Front;
 use hk_receiver::{Received, Receiver};
 use hk_report::write_line;
 use std::alloc::Global;
@@ -42,7 +44,7 @@ pub struct Station {
 
 impl Station {
     ghost use Rattle.hk_station.specs.Hearing.{IsHearing, ForEach, station_number, lines_written, version_of, kept_end, Becomes};
-    ghost use Rattle.hk_station.specs.Outcome.{progress_of, log_result, OnTorn, UnlessTorn, head_at};
+    ghost use Rattle.hk_station.specs.Outcome.{progress_of, log_result, OnTorn, UnlessTorn};
     ghost use Rattle.hk_station.specs.Feeding.{instant, HasHeard, IsTorn, WasTorn};
 
     /// Station `number`, before its first byte. `flips` bits of a print of sound are weak, blocks begin `hop` prints apart,
@@ -58,19 +60,20 @@ impl Station {
         requires some { 1 ≤ hop }
         requires most { hop ≤ 256 }
         requires limit { limit ≤ MOST_BYTES }
-        ensures unheard { IfOk result (λ station. (rules : Rules) → IsSetTo rules flips hop limit → IsHearing rules station unheard) }
+        ensures unheard { IfOk result (λ station. (rules : Rules)
+            → rules.setting ≡ record { analysis = full_analysis; flips = flips; block_size = 256; hop = hop }
+            → rules.bytes ≡ limit → IsHearing rules station unheard) }
         ensures number { IfOk result (λ station. station_number station ≡ number) }
     {
-        match Receiver::new(alloc, flips, hop, limit) {
-            Ok(receiver) => Ok(Station {
-                number,
-                receiver,
-                lines: 0,
-                version: 0,
-                end: None,
-            }),
-            Err(failed) => Err(failed),
-        }
+        let front = Front::new(alloc, flips)?;
+        let ring = BlockRing::new(alloc, hop)?;
+        Ok(Station {
+            number,
+            receiver: Receiver::new(front, ring, limit),
+            lines: 0,
+            version: 0,
+            end: None,
+        })
     }
 
     /// Hears the stream's next byte. Where it completes a block, that is looked up in the view, and its line is written to
@@ -205,7 +208,8 @@ impl Station {
         requires uncounted { self.old.lines < block_count self.old.receiver }
         requires few { block_count self.old.receiver ≤ MOST_BYTES }
         ensures tells { result ≡ progress_of (kept_end self.new) }
-        ensures writes { Writes K.Sink (line (head_at self.old (V.looker view.new).at) (matches_in (ring_of self.old.receiver) (V.looker view.new).songs))
+        ensures writes { Writes K.Sink (line (head_of self.old.number self.old.lines (block_of self.old.receiver) (V.looker view.new).at)
+            (matches_in (ring_of self.old.receiver) (V.looker view.new).songs))
             (log_result result) log.old log.new }
         ensures counts { UnlessTorn result (Becomes self.old self.new (self.old.lines + 1) (V.looker view.new).at None) }
         ensures torn { OnTorn result (Becomes self.old self.new self.old.lines (V.looker view.new).at (Some ends.SinkFault)) }
@@ -215,13 +219,7 @@ impl Station {
     {
         let version = view.look(self.receiver.ring(), scratch, steps);
         self.version = version;
-        let head = Head {
-            station: self.number,
-            block: self.lines,
-            segment: self.receiver.segment(),
-            first: self.receiver.ring().first_word(),
-            version,
-        };
+        let head = self.receiver.head(self.number, self.lines, version);
         match write_line(log, &head, scratch.matches()) {
             Ok(()) => {
                 self.lines += 1;

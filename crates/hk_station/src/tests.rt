@@ -1,9 +1,9 @@
 // Small streams by hand, against no songs. The expected lines are those of the worked examples.
-ghost use Rattle.std.specs.Prelude.{◌≡◌, ◌<◌, [], Some, None, true};
+ghost use Rattle.std.specs.Prelude.{◌≡◌, ◌<◌};
 
-use crate::{End, Looker, NoMemory, Progress, Scratch, Station, Steps};
+use crate::{End, NoMemory, Progress, Scratch, Station, Steps};
 use hk_base::{MemorySink, Print, WireFault};
-use hk_block::BlockRing;
+use hk_block::NoSongs;
 use std::alloc::Global;
 use std::marker::Brand;
 use std::sync::ledger::{Blank, Ledger};
@@ -22,42 +22,6 @@ const BLOCK: &[&[u8]] = &[b"\x01\x08\x00", &[0; 2048]];
 const GAP: &[u8] = b"\x03\x00\x00";
 
 const FENCE_OF_1: &[u8] = b"\x02\x00\x04\x00\x00\x00\x01";
-
-// No songs, at a version that stays. It keeps the last block that was looked up.
-#[derive(Drop)]
-struct NoSongs {
-    version: u32,
-    block: [Print; 256],
-}
-
-impl Looker for NoSongs {
-    ghost looker = { λ s. record {
-      at = s.version;
-      past = λ v. Some [];
-      songs = [];
-      room = 0;
-      shown = None;
-      shelf = None;
-      still = true;
-      home = None;
-    } };
-
-    #[tactic(auto, unfolding(hk_spec_matching::specs::Matching::matches))]
-    fn look<L: Ledger>(
-        &mut self,
-        ring: &BlockRing,
-        scratch: &mut Scratch,
-        steps: &mut Steps<L>,
-    ) -> u32 {
-        scratch.clear();
-        self.block = ring.prints();
-        self.version
-    }
-
-    fn now(&mut self) -> u32 {
-        self.version
-    }
-}
 
 // A station, its view and its log after some pieces, and what came of the last one.
 #[derive(Drop)]

@@ -38,7 +38,7 @@ none_passes [] = refl
 none_passes (print ∷ prints) = none_passes prints
 
 -- what is known once the byte is in the last packet: the packet's kind, length and number of bytes
-pub record Looked (limit : ℕ) (text : List ℕ) (b : ℕ) (reader : Reader) (place count kind packet_length : ℕ) : Type 0 where
+pub record InPacket (limit : ℕ) (text : List ℕ) (b : ℕ) (reader : Reader) (place count kind packet_length : ℕ) : Type 0 where
   pub at : place ≡ length text
   pub late : 6 ≤ place
   pub room : place < limit
@@ -48,12 +48,12 @@ pub record Looked (limit : ℕ) (text : List ℕ) (b : ℕ) (reader : Reader) (p
   pub length_is : packet_length ≡ length_in Two (last_packet (text ++ b ∷ []))
 
 -- what the packet's own calls say of it
-pub looked : (limit : ℕ) (text : List ℕ) (b : ℕ) (reader : Reader) (place count kind packet_length : ℕ) → place ≡ length text → 6 ≤ place → place < limit → HasByte reader text b
+pub in_packet : (limit : ℕ) (text : List ℕ) (b : ℕ) (reader : Reader) (place count kind packet_length : ℕ) → place ≡ length text → 6 ≤ place → place < limit → HasByte reader text b
     → ((bytes : List ℕ) → IsLast reader.packet bytes → count ≡ length bytes)
     → ((bytes : List ℕ) → IsLast reader.packet bytes → kind ≡ slice_index bytes 0)
     → ((bytes : List ℕ) → IsLast reader.packet bytes → packet_length ≡ length_in (length_size reader.packet) bytes)
-    → Looked limit text b reader place count kind packet_length
-looked limit text b reader place count kind packet_length at late room has counts kinds lengths = record {
+    → InPacket limit text b reader place count kind packet_length
+in_packet limit text b reader place count kind packet_length at late room has counts kinds lengths = record {
   at = at;
   late = late;
   room = room;
@@ -63,27 +63,27 @@ looked limit text b reader place count kind packet_length at late room has count
   length_is = lengths _ has.packet ∙ ap (λ size. length_in size (last_packet (text ++ b ∷ []))) reader.short_lengths;
 }
 
-module _ (limit : ℕ) (text : List ℕ) (b : ℕ) (reader : Reader) (place count kind packet_length : ℕ) (look : Looked limit text b reader place count kind packet_length) where
+module _ (limit : ℕ) (text : List ℕ) (b : ℕ) (reader : Reader) (place count kind packet_length : ℕ) (look : InPacket limit text b reader place count kind packet_length) where
   -- what the byte meets
-  met : station_met limit (text ++ b ∷ []) ≡ option_or (head_fault place count kind packet_length) (cond (bad_print (text ++ b ∷ [])) (Some (BadMask place)) None)
+  met : station_met limit (text ++ b ∷ []) ≡ option_or (head_fault 3 place count kind packet_length) (cond (bad_print (text ++ b ∷ [])) (Some (BadMask place)) None)
   met =
       let at : place ≡ length text = look.at in
       let late : 6 ≤ place = look.late in
       let room : place < limit = look.room in
       let bs : List ℕ = last_packet (text ++ b ∷ []) in
       met_packet limit text b (omega arith) (omega arith)
-      ∙ sym (ap (λ p. option_or (head_fault p count kind packet_length) (cond (bad_print (text ++ b ∷ [])) (Some (BadMask p)) None)) look.at
-      ∙ ap (λ n. option_or (head_fault (length text) n kind packet_length) (cond (bad_print (text ++ b ∷ [])) (Some (BadMask (length text))) None)) look.count_is
-      ∙ ap (λ k. option_or (head_fault (length text) (length bs) k packet_length) (cond (bad_print (text ++ b ∷ [])) (Some (BadMask (length text))) None)) look.kind_is
-      ∙ ap (λ n. option_or (head_fault (length text) (length bs) (slice_index bs 0) n) (cond (bad_print (text ++ b ∷ [])) (Some (BadMask (length text))) None)) look.length_is)
+      ∙ sym (ap (λ p. option_or (head_fault 3 p count kind packet_length) (cond (bad_print (text ++ b ∷ [])) (Some (BadMask p)) None)) look.at
+      ∙ ap (λ n. option_or (head_fault 3 (length text) n kind packet_length) (cond (bad_print (text ++ b ∷ [])) (Some (BadMask (length text))) None)) look.count_is
+      ∙ ap (λ k. option_or (head_fault 3 (length text) (length bs) k packet_length) (cond (bad_print (text ++ b ∷ [])) (Some (BadMask (length text))) None)) look.kind_is
+      ∙ ap (λ n. option_or (head_fault 3 (length text) (length bs) (slice_index bs 0) n) (cond (bad_print (text ++ b ∷ [])) (Some (BadMask (length text))) None)) look.length_is)
 
-  pub head_meets : (fault : WireFault) → head_fault place count kind packet_length ≡ Some fault → station_met limit (text ++ b ∷ []) ≡ Some fault
+  pub head_meets : (fault : WireFault) → head_fault 3 place count kind packet_length ≡ Some fault → station_met limit (text ++ b ∷ []) ≡ Some fault
   head_meets fault is = met ∙ ap (λ o. option_or o (cond (bad_print (text ++ b ∷ [])) (Some (BadMask place)) None)) is
 
-  met_by : head_fault place count kind packet_length ≡ None → station_met limit (text ++ b ∷ []) ≡ cond (bad_print (text ++ b ∷ [])) (Some (BadMask place)) None
+  met_by : head_fault 3 place count kind packet_length ≡ None → station_met limit (text ++ b ∷ []) ≡ cond (bad_print (text ++ b ∷ [])) (Some (BadMask place)) None
   met_by is = met ∙ ap (λ o. option_or o (cond (bad_print (text ++ b ∷ [])) (Some (BadMask place)) None)) is
 
-  tests : (part : Part) → part_of kind count ≡ part → Says part (slice_index (last_packet (text ++ b ∷ [])) 0) (length (last_packet (text ++ b ∷ [])))
+  tests : (part : Part) → part_of 3 kind count ≡ part → Says part (slice_index (last_packet (text ++ b ∷ [])) 0) (length (last_packet (text ++ b ∷ [])))
   tests part is =
       let bs : List ℕ = last_packet (text ++ b ∷ []) in
       let P : Part → Type 0 = λ p. Says p kind count in
@@ -92,14 +92,16 @@ module _ (limit : ℕ) (text : List ℕ) (b : ℕ) (reader : Reader) (place coun
       subst R look.count_is (subst Q look.kind_is (subst P is (says kind count)))
 
   -- the form and the packet as they are, and the unfinished print of the text with the byte
-  stands : (new : Reader) → new.form ≡ reader.form → new.packet ≡ reader.packet → gathered new.group ≡ unfinished_print (text ++ b ∷ []) → StandsAfter new (text ++ b ∷ [])
+  stands : (new : Reader) → new.told ≡ reader.told → new.packet ≡ reader.packet → gathered new.group ≡ unfinished_print (text ++ b ∷ []) → StandsAfter new (text ++ b ∷ [])
   stands new same_form same_packet group =
       let at : place ≡ length text = look.at in
       let late : 6 ≤ place = look.late in
       let P : LastPacket → Type 0 = λ packet. IsLast packet (last_packet (text ++ b ∷ [])) in
       record {
-        channels = λ h. ap (λ form. form.channels) same_form ∙ look.has.channels ∙ sym (same_channels text b (omega arith));
-        factor = λ h. ap (λ form. form.factor) same_form ∙ look.has.factor ∙ sym (same_factor text b (omega arith));
+        told = record {
+          channels = λ h. ap (λ form. form.channels) same_form ∙ look.has.told.channels (omega (arith, at, late)) ∙ sym (same_channels text b (omega arith));
+          factor = λ h. ap (λ form. form.factor) same_form ∙ look.has.told.factor (omega (arith, at, late)) ∙ sym (same_factor text b (omega arith));
+        };
         packet = subst P (sym same_packet) look.has.packet;
         group = group;
       }
@@ -115,11 +117,11 @@ module _ (limit : ℕ) (text : List ℕ) (b : ℕ) (reader : Reader) (place coun
   quiet_group gap none is =
       quiet_unfinished text b behind none ∙ ap (λ c. cond c [] (unfinished_print text)) is ∙ ap (cond gap []) (sym look.has.group)
 
-  quiet_met : head_fault place count kind packet_length ≡ None → ends_with_data (text ++ b ∷ []) ≡ false → station_met limit (text ++ b ∷ []) ≡ None
+  quiet_met : head_fault 3 place count kind packet_length ≡ None → ends_with_data (text ++ b ∷ []) ≡ false → station_met limit (text ++ b ∷ []) ≡ None
   quiet_met fine none = met_by fine ∙ ap (λ c. cond c (Some (BadMask place)) None) (no_bad_print text b (sends_nothing text b none))
 
-  pub brings_other : (new : Reader) → head_fault place count kind packet_length ≡ None → part_of kind count ≡ Other
-      → new.form ≡ reader.form → new.packet ≡ reader.packet → new.group ≡ reader.group → TellsItem (Ok item.Nothing) new limit (text ++ b ∷ [])
+  pub brings_other : (new : Reader) → head_fault 3 place count kind packet_length ≡ None → part_of 3 kind count ≡ Other
+      → new.told ≡ reader.told → new.packet ≡ reader.packet → new.group ≡ reader.group → TellsItem (Ok item.Nothing) new limit (text ++ b ∷ [])
   brings_other new fine is same_form same_packet same_group =
       let by = tests Other is in (
         quiet_met fine by.data_test,
@@ -128,8 +130,8 @@ module _ (limit : ℕ) (text : List ℕ) (b : ℕ) (reader : Reader) (place coun
             (ap gathered same_group ∙ sym (quiet_group false by.data_test by.begin_test)),
       )
 
-  pub brings_gap_end : (new : Reader) → head_fault place count kind packet_length ≡ None → part_of kind count ≡ GapEnd
-      → new.form ≡ reader.form → new.packet ≡ reader.packet → new.group ≡ reader.group → TellsItem (Ok item.Gap) new limit (text ++ b ∷ [])
+  pub brings_gap_end : (new : Reader) → head_fault 3 place count kind packet_length ≡ None → part_of 3 kind count ≡ GapEnd
+      → new.told ≡ reader.told → new.packet ≡ reader.packet → new.group ≡ reader.group → TellsItem (Ok item.Gap) new limit (text ++ b ∷ [])
   brings_gap_end new fine is same_form same_packet same_group =
       let by = tests GapEnd is in (
         quiet_met fine by.data_test,
@@ -138,8 +140,8 @@ module _ (limit : ℕ) (text : List ℕ) (b : ℕ) (reader : Reader) (place coun
             (ap gathered same_group ∙ sym (quiet_group false by.data_test by.begin_test)),
       )
 
-  pub brings_gap_begin : (new : Reader) → head_fault place count kind packet_length ≡ None → part_of kind count ≡ GapBegin
-      → new.form ≡ reader.form → new.packet ≡ reader.packet → gathered new.group ≡ [] → TellsItem (Ok item.Nothing) new limit (text ++ b ∷ [])
+  pub brings_gap_begin : (new : Reader) → head_fault 3 place count kind packet_length ≡ None → part_of 3 kind count ≡ GapBegin
+      → new.told ≡ reader.told → new.packet ≡ reader.packet → gathered new.group ≡ [] → TellsItem (Ok item.Nothing) new limit (text ++ b ∷ [])
   brings_gap_begin new fine is same_form same_packet empty =
       let by = tests GapBegin is in (
         quiet_met fine by.data_test,
@@ -147,9 +149,9 @@ module _ (limit : ℕ) (text : List ℕ) (b : ℕ) (reader : Reader) (place coun
         stands new same_form same_packet (empty ∙ sym (quiet_group true by.data_test by.begin_test)),
       )
 
-  pub brings_fence : (new : Reader) (asked : ℕ) → head_fault place count kind packet_length ≡ None → part_of kind count ≡ FenceEnd
+  pub brings_fence : (new : Reader) (asked : ℕ) → head_fault 3 place count kind packet_length ≡ None → part_of 3 kind count ≡ FenceEnd
       → asked ≡ from_be_bytes w32 (drop 3 (last_packet (text ++ b ∷ [])))
-      → new.form ≡ reader.form → new.packet ≡ reader.packet → new.group ≡ reader.group → TellsItem (Ok (item.Fence asked)) new limit (text ++ b ∷ [])
+      → new.told ≡ reader.told → new.packet ≡ reader.packet → new.group ≡ reader.group → TellsItem (Ok (item.Fence asked)) new limit (text ++ b ∷ [])
   brings_fence new asked fine is asks same_form same_packet same_group =
       let by = tests FenceEnd is in (
         quiet_met fine by.data_test,
@@ -159,8 +161,8 @@ module _ (limit : ℕ) (text : List ℕ) (b : ℕ) (reader : Reader) (place coun
       )
 
   -- a byte of sound
-  pub brings_sound : (new : Reader) → head_fault place count kind packet_length ≡ None → part_of kind count ≡ Data → carries_prints text ≡ false
-      → new.form ≡ reader.form → new.packet ≡ reader.packet → new.group ≡ reader.group → TellsItem (Ok (item.Byte b)) new limit (text ++ b ∷ [])
+  pub brings_sound : (new : Reader) → head_fault 3 place count kind packet_length ≡ None → part_of 3 kind count ≡ Data → carries_prints text ≡ false
+      → new.told ≡ reader.told → new.packet ≡ reader.packet → new.group ≡ reader.group → TellsItem (Ok (item.Byte b)) new limit (text ++ b ∷ [])
   brings_sound new fine is sound same_form same_packet same_group =
       let t : List ℕ = text ++ b ∷ [] in
       let by = tests Data is in
@@ -175,8 +177,8 @@ module _ (limit : ℕ) (text : List ℕ) (b : ℕ) (reader : Reader) (place coun
       )
 
   -- a byte of a print, where these are the bytes of the print so far
-  module _ (fine : head_fault place count kind packet_length ≡ None) (is : part_of kind count ≡ Data) (carries : carries_prints text ≡ true)
-      (new : Reader) (same_form : new.form ≡ reader.form) (same_packet : new.packet ≡ reader.packet)
+  module _ (fine : head_fault 3 place count kind packet_length ≡ None) (is : part_of 3 kind count ≡ Data) (carries : carries_prints text ≡ true)
+      (new : Reader) (same_form : new.told ≡ reader.told) (same_packet : new.packet ≡ reader.packet)
       (left : gathered new.group ≡ left_of_print (take 12 (gathered reader.group ++ b ∷ []))) where
     held : take 12 (gathered reader.group ++ b ∷ []) ≡ rest_of 8 (last_segment text) ++ b ∷ []
     held =
@@ -255,7 +257,7 @@ module _ (limit : ℕ) (text : List ℕ) (b : ℕ) (reader : Reader) (place coun
 
 -- a reader whose packet has taken the next byte
 pub has_byte : (text : List ℕ) (b : ℕ) (old new : Reader) → 6 ≤ length text → StandsAfter old text
-    → new.form ≡ old.form → new.group ≡ old.group → length_size old.packet ≡ Two
+    → new.told ≡ old.told → new.group ≡ old.group → length_size old.packet ≡ Two
     → ((bytes : List ℕ) → IsLast old.packet bytes → IsLast new.packet (if is_over (length_size old.packet) bytes then b ∷ [] else bytes ++ b ∷ []))
     → HasByte new text b
 has_byte text b old new late stands same_form same_group two pushed =
@@ -263,8 +265,10 @@ has_byte text b old new late stands same_form same_group two pushed =
     let P : LengthSize → Type 0 = λ size. IsLast new.packet (cond (is_over size packet_now) (b ∷ []) (packet_now ++ b ∷ [])) in
     let Q : List ℕ → Type 0 = IsLast new.packet in
     record {
-      channels = ap (λ form. form.channels) same_form ∙ stands.channels (omega arith);
-      factor = ap (λ form. form.factor) same_form ∙ stands.factor (omega arith);
+      told = record {
+        channels = λ h. ap (λ form. form.channels) same_form ∙ stands.told.channels h;
+        factor = λ h. ap (λ form. form.factor) same_form ∙ stands.told.factor h;
+      };
       packet = subst Q (sym (last_packet-next text b late)) (subst P two (pushed packet_now stands.packet));
       group = ap gathered same_group ∙ stands.group;
     }

@@ -1,5 +1,5 @@
 -- What each item tells of a text and its last byte, for every text.
-use Rattle.std.proofs.Common.{◌≡◌, ℕ, ◌+◌, ◌<◌, ◌≤◌, ◌⊎◌, List, [], ◌∷◌, ◌++◌, length, refl, sym, ◌∙◌, ap, subst, arith, length-append, Bool, true, false, inl, inr, Option, None, Some, cond, slice_index}
+use Rattle.std.proofs.Common.{◌≡◌, ℕ, ◌+◌, ◌<◌, ◌≤◌, List, [], ◌∷◌, ◌++◌, length, refl, sym, ◌∙◌, ap, subst, arith, length-append, Bool, true, false, inl, inr, Option, None, Some, cond, slice_index}
 use Rattle.std.proofs.lemmas.List.{append-nil}
 use Rattle.std.proofs.lemmas.Bool.{le-leb, lt-leb, cases_Bool}
 use Rattle.std.proofs.lemmas.Bool.Decides.{leb_tells, eqb_tells}
@@ -8,10 +8,11 @@ use Rattle.std.specs.Option.{option_map_or}
 use Rattle.std.specs.Int.{w32, from_be_bytes}
 use Rattle.hk_base.specs.declared.plain.WireFault.{WireFault}
 use Rattle.hk_spec_sound.specs.Groups.{rest_of}
-use Rattle.hk_spec_streams.specs.Station.{FENCE, GAP, Fence, channels_of, factor_of, station_met, station_fault, segments, sent_print, sent_prints, fences}
-use Rattle.hk_station_wire.specs.LastPacket.{last_packet, last_byte, last_segment, all_sent_prints, begins_gap, ends_with_data, gap_is_open, form_of}
+use Rattle.hk_spec_streams.specs.Station.{heard_form, FENCE, GAP, Fence, channels_of, factor_of, station_met, station_fault, segments, sent_print, sent_prints, fences, form_of}
+use Rattle.hk_station_wire.specs.LastPacket.{last_packet, last_byte, last_segment, all_sent_prints, begins_gap, ends_with_data, gap_is_open}
 use Rattle.hk_spec_streams.proofs.NextFault.{seen_of-all, fault_of-before, fault_of-none, fault_of-some, fault_of-stays}
 use Rattle.hk_spec_streams.proofs.Completed.{completed-more}
+use Rattle.hk_spec_streams.proofs.Optional.{none_or_some}
 use Rattle.hk_station_wire.proofs.GrowingSegments.{next_segments, NewSegment, SameSegment, last_byte-append}
 use Rattle.hk_station_wire.proofs.GrowingPrints.{last_segment-append, next_prints, NoPrint, NoData, PartOfPrint, WholePrint, sent-whole, sent-part}
 use Rattle.hk_station_wire.proofs.GrowingFences.{fence_in, fences-append}
@@ -19,7 +20,7 @@ use Rattle.hk_station_wire.specs.declared.item.Item.{Item}
 use Rattle.hk_station_wire.specs.declared.item.Item.TheVariants as item
 use Rattle.hk_station_wire.specs.declared.reader.Part.{Part}
 use Rattle.hk_station_wire.specs.declared.reader.Part.TheVariants.{Data, FenceEnd, GapBegin, GapEnd, Other}
-use Rattle.hk_station_wire.specs.Items.{item_at, item_of, carries_prints}
+use Rattle.hk_station_wire.specs.Items.{Says, item_at, item_of, carries_prints}
 use Rattle.hk_station_wire.specs.Steps.{part_of}
 use Rattle.hk_station_wire.specs.Says as says_of
 use Rattle.hk_station_wire.proofs.MeetsFault.{sends_nothing, true_isnt_false}
@@ -29,14 +30,10 @@ use Rattle.hk_station_wire.proofs.WellFormed.{fits, no_open_fence}
 use Rattle.hk_station_wire.proofs.OpenGap.{gap_before, gap_of_data, gap_of_fence, gap_of_begin, gap_of_end, gap_of_other}
 
 -- a fault: that of the text, or one that the byte meets
-one_or_none : {A : Type 0} (o : Option A) → (o ≡ None) ⊎ ((x : A) × (o ≡ Some x))
-one_or_none None = inl refl
-one_or_none (Some x) = inr (x, refl)
-
 says_fault : (limit : ℕ) (text : List ℕ) (b : ℕ) (fault : WireFault) → station_fault limit (text ++ b ∷ []) ≡ Some fault → says_of.SaysFault fault limit text b
-says_fault limit text b fault is = elim (one_or_none (station_fault limit text)) [
+says_fault limit text b fault is = elim (none_or_some (station_fault limit text)) [
   | inr old ↦ record { is_fault = is; seen_stays = (fault_of-stays (station_met limit) text b old.0 old.1).1 }
-  | inl none ↦ elim (one_or_none (station_met limit (text ++ b ∷ []))) [
+  | inl none ↦ elim (none_or_some (station_met limit (text ++ b ∷ []))) [
     | inl fine ↦ absurd (let odd : Some fault ≡ None = sym is ∙ fault_of-none (station_met limit) text b none fine in cc)
     | inr met ↦ record {
       is_fault = is;
@@ -46,10 +43,10 @@ says_fault limit text b fault is = elim (one_or_none (station_fault limit text))
 ]
 
 -- the form of a text whose hello is whole, or not
-pub late_form : (t : List ℕ) → 6 ≤ length t → says_of.heard_form t ≡ form_of t
+pub late_form : (t : List ℕ) → 6 ≤ length t → heard_form t ≡ form_of t
 late_form t late = ap (λ c. cond c (form_of t) (record { channels = 0; factor = 1 })) (le-leb 6 (length t) late)
 
-early_form : (t : List ℕ) → length t < 6 → says_of.heard_form t ≡ record { channels = 0; factor = 1 }
+early_form : (t : List ℕ) → length t < 6 → heard_form t ≡ record { channels = 0; factor = 1 }
 early_form t early = ap (λ c. cond c (form_of t) (record { channels = 0; factor = 1 })) (lt-leb 6 (length t) early)
 
 -- without a fault
@@ -95,16 +92,16 @@ module _ (limit : ℕ) (text : List ℕ) (b : ℕ) (fine : station_fault limit (
   hello_gap : (t : List ℕ) → length t ≤ 6 → gap_is_open t ≡ false
   hello_gap t early = ap (λ bytes. (slice_index bytes 0 == GAP) && nat_lt (length bytes) 3) (hello_packet t early)
 
-  hello_says : length text < 6 → says_of.Says (item_of (text ++ b ∷ [])) limit text b
+  hello_says : length text < 6 → Says (item_of (text ++ b ∷ [])) limit text b
   hello_says early =
       let t : List ℕ = text ++ b ∷ [] in
       let long : length (text ++ b ∷ []) ≡ length text + 1 = length-append text (b ∷ []) in
       let bytes : last_packet (text ++ b ∷ []) ≡ [] = hello_packet t (omega (arith, long)) in
-      let P : Item → Type 0 = λ i. says_of.Says i limit text b in
+      let P : Item → Type 0 = λ i. Says i limit text b in
       elim (eqb_tells (length t) 6) [
         | inl six ↦ subst P (sym (hello_item text b early ∙ ap (λ c. cond c (item.Hello (form_of t)) item.Nothing) six.0)) (record {
           no_fault = no_fault;
-          sixth = omega (arith, six.1, long);
+          last = six.0;
           form_is = sym (late_form t (omega (arith, six.1)));
           no_gap_before = hello_gap text (omega arith);
           no_gap_after = hello_gap t (omega (arith, long));
@@ -131,7 +128,7 @@ module _ (limit : ℕ) (text : List ℕ) (b : ℕ) (fine : station_fault limit (
     abbrev count : ℕ
     count = length (last_packet (text ++ b ∷ []))
 
-    same_form : says_of.heard_form (text ++ b ∷ []) ≡ says_of.heard_form text
+    same_form : heard_form (text ++ b ∷ []) ≡ heard_form text
     same_form =
         let long : length (text ++ b ∷ []) ≡ length text + 1 = length-append text (b ∷ []) in
         late_form (text ++ b ∷ []) (omega (arith, long, late))
@@ -167,9 +164,9 @@ module _ (limit : ℕ) (text : List ℕ) (b : ℕ) (fine : station_fault limit (
     }
 
     -- a byte of a print
-    prints_say : (by : Is text b late Data) → carries_prints text ≡ true → says_of.Says (item_of (text ++ b ∷ [])) limit text b
+    prints_say : (by : Is text b late Data) → carries_prints text ≡ true → Says (item_of (text ++ b ∷ [])) limit text b
     prints_say by carries =
-        let P : Item → Type 0 = λ i. says_of.Says i limit text b in
+        let P : Item → Type 0 = λ i. Says i limit text b in
         let gained : says_of.GainsByte text b = gain by in
         let last : last_segment text ≡ gained.segment = last_segment-append text gained.front gained.segment gained.before in
         let left : rest_of 8 (last_segment text) ≡ rest_of 8 gained.segment = ap (rest_of 8) last in
@@ -198,15 +195,15 @@ module _ (limit : ℕ) (text : List ℕ) (b : ℕ) (fine : station_fault limit (
               })
         ]
 
-    part_says : (part : Part) → Is text b late part → says_of.Says (item_of (text ++ b ∷ [])) limit text b
+    part_says : (part : Part) → Is text b late part → Says (item_of (text ++ b ∷ [])) limit text b
     part_says Data by =
-        let P : Item → Type 0 = λ i. says_of.Says i limit text b in
+        let P : Item → Type 0 = λ i. Says i limit text b in
         elim (cases_Bool (carries_prints text)) [
           | inl carries ↦ prints_say by carries
           | inr sound ↦ subst P (sym (sound_item text b late by sound)) (sound_says by sound)
         ]
     part_says FenceEnd by =
-        let P : Item → Type 0 = λ i. says_of.Says i limit text b in
+        let P : Item → Type 0 = λ i. Says i limit text b in
         subst P (sym (fence_item text b late by)) (record {
           no_fault = no_fault;
           same_form = same_form;
@@ -216,7 +213,7 @@ module _ (limit : ℕ) (text : List ℕ) (b : ℕ) (fine : station_fault limit (
           more_fences = fences_by true by.fence_test;
         })
     part_says GapBegin by =
-        let P : Item → Type 0 = λ i. says_of.Says i limit text b in
+        let P : Item → Type 0 = λ i. Says i limit text b in
         subst P (sym (gap_begin_item text b late by)) (record {
           no_fault = no_fault;
           same_form = same_form;
@@ -225,7 +222,7 @@ module _ (limit : ℕ) (text : List ℕ) (b : ℕ) (fine : station_fault limit (
           same_fences = no_fence by.fence_test;
         })
     part_says GapEnd by =
-        let P : Item → Type 0 = λ i. says_of.Says i limit text b in
+        let P : Item → Type 0 = λ i. Says i limit text b in
         subst P (sym (gap_end_item text b late by)) (record {
           no_fault = no_fault;
           same_form = same_form;
@@ -235,7 +232,7 @@ module _ (limit : ℕ) (text : List ℕ) (b : ℕ) (fine : station_fault limit (
           same_fences = no_fence by.fence_test;
         })
     part_says Other by =
-        let P : Item → Type 0 = λ i. says_of.Says i limit text b in
+        let P : Item → Type 0 = λ i. Says i limit text b in
         subst P (sym (other_item text b late by)) (record {
           no_fault = no_fault;
           same_form = same_form;
@@ -244,23 +241,23 @@ module _ (limit : ℕ) (text : List ℕ) (b : ℕ) (fine : station_fault limit (
           same_fences = no_fence by.fence_test;
         })
 
-    late_says : says_of.Says (item_of (text ++ b ∷ [])) limit text b
-    late_says = part_says (part_of kind count) (says kind count)
+    late_says : Says (item_of (text ++ b ∷ [])) limit text b
+    late_says = part_says (part_of 3 kind count) (says kind count)
 
-  item_says : says_of.Says (item_of (text ++ b ∷ [])) limit text b
+  item_says : Says (item_of (text ++ b ∷ [])) limit text b
   item_says = elim (leb_tells 6 (length text)) [ inl late ↦ late_says late.1 | inr early ↦ hello_says early.1 ]
 
 -- what the item at a text's last byte tells
-pub says_at : (limit : ℕ) (text : List ℕ) (b : ℕ) → says_of.Says (item_at limit (text ++ b ∷ [])) limit text b
+pub says_at : (limit : ℕ) (text : List ℕ) (b : ℕ) → Says (item_at limit (text ++ b ∷ [])) limit text b
 unfolding item_at
 says_at limit text b =
     let made : Option WireFault → Item = λ o. option_map_or (λ fault. item.Fault fault) o (item_of (text ++ b ∷ [])) in
-    let P : Item → Type 0 = λ i. says_of.Says i limit text b in
-    elim (one_or_none (station_fault limit (text ++ b ∷ []))) [
+    let P : Item → Type 0 = λ i. Says i limit text b in
+    elim (none_or_some (station_fault limit (text ++ b ∷ []))) [
       | inr some ↦ subst P (sym (ap made some.1)) (says_fault limit text b some.0 some.1)
       | inl none ↦ subst P (sym (ap made none)) (item_says limit text b none)
     ]
 
 -- the same of an item that a push answered
-pub item_tells : (item : Item) (limit : ℕ) (text : List ℕ) (b : ℕ) → item ≡ item_at limit (text ++ b ∷ []) → says_of.Says item limit text b
-item_tells item limit text b is = let P : Item → Type 0 = λ i. says_of.Says i limit text b in subst P (sym is) (says_at limit text b)
+pub item_tells : (item : Item) (limit : ℕ) (text : List ℕ) (b : ℕ) → item ≡ item_at limit (text ++ b ∷ []) → Says item limit text b
+item_tells item limit text b is = let P : Item → Type 0 = λ i. Says i limit text b in subst P (sym is) (says_at limit text b)

@@ -12,8 +12,8 @@ use Rattle.hk_base.specs.declared.plain.Form.{Form}
 use Rattle.hk_spec_sound.specs.Groups.{rest_of}
 use Rattle.hk_spec_streams.specs.Pieces.{last_bytes, completed}
 use Rattle.hk_spec_streams.specs.Grammar.{kind_of}
-use Rattle.hk_spec_streams.specs.Station.{DATA, FENCE, GAP, fences, Fence, channels_of, factor_of, segments}
-use Rattle.hk_station_wire.specs.LastPacket.{last_packet, last_byte, last_segment, all_sent_prints, begins_gap, ends_gap, ends_with_data, form_of}
+use Rattle.hk_spec_streams.specs.Station.{DATA, FENCE, GAP, fences, Fence, channels_of, factor_of, segments, form_of}
+use Rattle.hk_station_wire.specs.LastPacket.{last_packet, last_byte, last_segment, all_sent_prints, begins_gap, ends_gap, ends_with_data}
 use Rattle.hk_station_wire.proofs.GrowingSegments.{packet_data, packets_short, last_byte-append}
 use Rattle.hk_station_wire.proofs.GrowingPrints.{next_prints, NoPrint, NoData, PartOfPrint, WholePrint}
 use Rattle.hk_station_wire.proofs.GrowingFences.{as_fence, fences_completed, fence_in}

@@ -10,3 +10,4 @@ pub mod WellFormed
 pub mod OpenGap
 pub mod ItemLaws
 pub mod Sounding
+pub mod Growth

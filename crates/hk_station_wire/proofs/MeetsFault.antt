@@ -4,21 +4,21 @@ use Rattle.std.proofs.lemmas.List.{append-nil}
 use Rattle.std.proofs.lemmas.Bool.{lt-ltb, le-ltb}
 use Rattle.std.proofs.lemmas.Bool.Decides.{leb_tells}
 use Rattle.std.proofs.Math.Seq.{take-append_seam, get_or-append_seam}
-use Rattle.std.specs.Prelude.{◌&&◌, ◌==◌, nat_lt, not, slice_index_or}
+use Rattle.std.specs.Prelude.{◌&&◌, ◌==◌, nat_lt, not}
 use Rattle.std.specs.Option.{option_or}
 use Rattle.std.specs.Int.{w16, w32, from_be_bytes}
 use Rattle.std.specs.List.{list_any}
 use Rattle.hk_base.specs.declared.plain.WireFault.{WireFault}
 use Rattle.hk_base.specs.declared.plain.WireFault.TheVariants.{BadHello, BadKind, BadLength, BadMask, TooLong}
-use Rattle.hk_spec_streams.specs.Pieces.{first_that_holds, is_one_of, last_bytes, completed}
-use Rattle.hk_spec_streams.specs.Station.{DATA, station_met, station_hello, station_length_fits, has_bad_mask, channels_of}
+use Rattle.hk_spec_streams.specs.Pieces.{first_that_holds, last_bytes, completed}
+use Rattle.hk_spec_streams.specs.Station.{DATA, station_met, station_length_fits, has_bad_mask, channels_of, hello_allows}
 use Rattle.hk_station_wire.specs.LastPacket.{last_packet, all_sent_prints, ends_with_data}
 use Rattle.hk_station_wire.proofs.GrowingSegments.{packets_short}
 use Rattle.hk_spec_streams.proofs.Completed.{completed-more}
 use Rattle.hk_station_wire.proofs.GrowingPrints.{next_prints, NoPrint, NoData, PartOfPrint, WholePrint}
 use Rattle.hk_wire.specs.declared.packet.LengthSize.TheVariants.{Two}
 use Rattle.hk_wire.specs.Held.{length_in}
-use Rattle.hk_station_wire.specs.Steps.{hello_allows, is_kind, head_fault}
+use Rattle.hk_station_wire.specs.Steps.{is_kind, head_fault}
 
 -- the five tests, and what stands beside each
 abbrev rows : Bool → Bool → Bool → Bool → Bool → ℕ → ℕ → Option WireFault
@@ -60,7 +60,7 @@ met_rows limit text b =
     let fits : Bool = (length bytes == 3) && not (station_length_fits (slice_index bytes 0) (from_be_bytes w16 (drop 1 bytes))) in
     let bad : Bool = bad_print (text ++ b ∷ []) in
     let all : Bool → ℕ → List ℕ → ℕ → ℕ → Option WireFault = λ over p before byte from. first_that_holds ((over, TooLong limit)
-    ∷ (nat_lt p 6 && not (is_one_of (slice_index_or (station_hello before) (length before) []) byte), BadHello p)
+    ∷ (nat_lt p 6 && not (hello_allows (length before) (slice_index before 4) byte), BadHello p)
     ∷ (kind, BadKind p) ∷ (fits, BadLength from) ∷ (bad, BadMask p) ∷ []) in
     let from : length text + 1 - 2 ≡ length text - 1 = omega arith in
     ap (λ n. all (nat_lt limit n) (length t - 1) (take (length t - 1) t) (slice_index t (length t - 1)) (length t - 1 + 1 - 2)) long
@@ -168,7 +168,7 @@ length_in_two bytes = be_two (drop 1 bytes)
 -- behind the hello
 pub met_packet : (limit : ℕ) (text : List ℕ) (b : ℕ) → 6 ≤ length text → length text < limit
     → station_met limit (text ++ b ∷ []) ≡ option_or
-    (head_fault (length text) (length (last_packet (text ++ b ∷ []))) (slice_index (last_packet (text ++ b ∷ [])) 0) (length_in Two (last_packet (text ++ b ∷ []))))
+    (head_fault 3 (length text) (length (last_packet (text ++ b ∷ []))) (slice_index (last_packet (text ++ b ∷ [])) 0) (length_in Two (last_packet (text ++ b ∷ []))))
     (cond (bad_print (text ++ b ∷ [])) (Some (BadMask (length text))) None)
 met_packet limit text b late room =
     let p : ℕ = length text in

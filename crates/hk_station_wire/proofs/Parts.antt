@@ -61,15 +61,15 @@ says_end : (c : Bool) → Tests (cond c GapEnd Other) false false false (c && tr
 says_end true = record { data_test = refl; fence_test = refl; begin_test = refl; end_test = refl }
 says_end false = record { data_test = refl; fence_test = refl; begin_test = refl; end_test = refl }
 
-says_gap : (count : ℕ) → Says (part_of GAP count) GAP count
+says_gap : (count : ℕ) → Says (part_of 3 GAP count) GAP count
 says_gap count = elim (eqb_tells count 1) [
-  | inl one ↦ let P : ℕ → Type 0 = λ n. Says (part_of GAP n) GAP n in
+  | inl one ↦ let P : ℕ → Type 0 = λ n. Says (part_of 3 GAP n) GAP n in
       subst P (sym one.1) (record { data_test = refl; fence_test = refl; begin_test = refl; end_test = refl })
   | inr more ↦ let P : Bool → Type 0 = λ c. Tests (cond c GapBegin (cond (count == 3) GapEnd Other)) false false (c && true) ((count == 3) && true) in
       subst P (sym more.0) (says_end (count == 3))
 ]
 
-says_other : (kind count : ℕ) → (kind == DATA) ≡ false → (kind == FENCE) ≡ false → (kind == GAP) ≡ false → Says (part_of kind count) kind count
+says_other : (kind count : ℕ) → (kind == DATA) ≡ false → (kind == FENCE) ≡ false → (kind == GAP) ≡ false → Says (part_of 3 kind count) kind count
 says_other kind count a b c =
     let P : Bool → Bool → Bool → Type 0 = λ d f g. Tests
     (cond (d && nat_lt 3 count) Data (cond (f && (count == 7)) FenceEnd (cond (g && (count == 1)) GapBegin (cond (g && (count == 3)) GapEnd Other))))
@@ -77,13 +77,13 @@ says_other kind count a b c =
     subst (λ d. P d (kind == FENCE) (kind == GAP)) (sym a)
     (subst (λ f. P false f (kind == GAP)) (sym b) (subst (λ g. P false false g) (sym c) (says_none (count == 1) (count == 3))))
 
-pub says : (kind count : ℕ) → Says (part_of kind count) kind count
+pub says : (kind count : ℕ) → Says (part_of 3 kind count) kind count
 says kind count = elim (eqb_tells kind DATA) [
-  | inl one ↦ let P : ℕ → Type 0 = λ k. Says (part_of k count) k count in subst P (sym one.1) (says_data (nat_lt 3 count) (count == 1) (count == 3))
+  | inl one ↦ let P : ℕ → Type 0 = λ k. Says (part_of 3 k count) k count in subst P (sym one.1) (says_data (nat_lt 3 count) (count == 1) (count == 3))
   | inr not_data ↦ elim (eqb_tells kind FENCE) [
-    | inl two ↦ let P : ℕ → Type 0 = λ k. Says (part_of k count) k count in subst P (sym two.1) (says_fence (count == 7) (count == 1) (count == 3))
+    | inl two ↦ let P : ℕ → Type 0 = λ k. Says (part_of 3 k count) k count in subst P (sym two.1) (says_fence (count == 7) (count == 1) (count == 3))
     | inr not_fence ↦ elim (eqb_tells kind GAP) [
-      | inl three ↦ let P : ℕ → Type 0 = λ k. Says (part_of k count) k count in subst P (sym three.1) (says_gap count)
+      | inl three ↦ let P : ℕ → Type 0 = λ k. Says (part_of 3 k count) k count in subst P (sym three.1) (says_gap count)
       | inr not_gap ↦ says_other kind count not_data.0 not_fence.0 not_gap.0
     ]
   ]

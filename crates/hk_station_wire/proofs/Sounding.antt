@@ -1,8 +1,8 @@
 -- Bytes of sound within their packet, whatever they are.
 use Rattle.std.proofs.Common.{◌≡◌, ℕ, suc, ◌+◌, ◌<◌, ◌≤◌, List, [], ◌∷◌, ◌++◌, length, refl, sym, ◌∙◌, ap, subst, arith, length-append, append-nil, append_assoc, Bool, false, inl, inr, None, Some, cond, slice_index}
 use Rattle.std.proofs.lemmas.List.{get_or_append_left}
-use Rattle.std.proofs.lemmas.Bool.{lt-ltb}
-use Rattle.std.proofs.lemmas.Bool.Decides.{eqb_tells, leb_tells}
+use Rattle.std.proofs.lemmas.Bool.{lt-ltb, ne_eqb}
+use Rattle.std.proofs.lemmas.Bool.Decides.{leb_tells}
 use Rattle.std.specs.Prelude.{◌==◌, ◌&&◌, ◌||◌, nat_lt, count_ones, is_some, Option}
 use Rattle.std.specs.Int.{w16}
 use Rattle.std.specs.Option.{option_or, option_map_or}
@@ -26,9 +26,6 @@ use Rattle.hk_station_wire.proofs.MeetsFault.{met_packet, bad_print}
 use Rattle.hk_station_wire.proofs.Parts.{Says, says}
 use Rattle.hk_wire.specs.Held.{length_in}
 use Rattle.hk_wire.specs.declared.packet.LengthSize.TheVariants.{Two}
-
-isnt : (a b : ℕ) → (a ≡ b → ⊥) → (a == b) ≡ false
-isnt a b other = elim (eqb_tells a b) [ inl same ↦ absurd (other same.1) | inr differ ↦ differ.0 ]
 
 -- neither of two tests passes
 none_holds : {A : Type 0} (a b x y : Bool) (u v : A) → a ≡ false → b ≡ false → first_that_holds ((a && x, u) ∷ (b && y, v) ∷ []) ≡ None
@@ -67,8 +64,8 @@ fewer limit text n m few ahead = record {
 -- one byte
 module _ (limit : ℕ) (text : List ℕ) (b n : ℕ) (ahead : SoundAhead limit text (suc n)) where
   goes_on : over (packet_size w16) (last_packet text) ≡ false
-  goes_on = ap (λ t. t || (packet_size w16 (last_packet text) == length (last_packet text))) (isnt (length (last_packet text)) 0 (λ none. omega (arith, none, ahead.begun)))
-      ∙ isnt (packet_size w16 (last_packet text)) (length (last_packet text)) (λ whole. omega (arith, whole, ahead.inside))
+  goes_on = ap (λ t. t || (packet_size w16 (last_packet text) == length (last_packet text))) (ne_eqb (length (last_packet text)) 0 (λ none. omega (arith, none, ahead.begun)))
+      ∙ ne_eqb (packet_size w16 (last_packet text)) (length (last_packet text)) (λ whole. omega (arith, whole, ahead.inside))
 
   pub grown : last_packet (text ++ b ∷ []) ≡ last_packet text ++ b ∷ []
   grown = last_packet-next text b (late limit text (suc n) ahead) ∙ ap (λ t. cond t (b ∷ []) (last_packet text ++ b ∷ [])) goes_on
@@ -83,7 +80,7 @@ module _ (limit : ℕ) (text : List ℕ) (b n : ℕ) (ahead : SoundAhead limit t
   is_data =
       let kind : ℕ = slice_index (last_packet (text ++ b ∷ [])) 0 in
       let count : ℕ = length (last_packet (text ++ b ∷ [])) in
-      let part : part_of kind count ≡ Data = ap (λ k. part_of k count) same_kind
+      let part : part_of 3 kind count ≡ Data = ap (λ k. part_of 3 k count) same_kind
       ∙ ap (λ t. cond t Data Other) (lt-ltb 3 (length (last_packet (text ++ b ∷ []))) (omega (arith, longer, ahead.begun))) in
       subst (λ p. Says p kind count) part (says kind count)
 
@@ -94,9 +91,9 @@ module _ (limit : ℕ) (text : List ℕ) (b n : ℕ) (ahead : SoundAhead limit t
   meets_none =
       let t : List ℕ = text ++ b ∷ [] in
       let count : ℕ = length (last_packet t) in
-      let fine : head_fault (length text) (length (last_packet (text ++ b ∷ []))) (slice_index (last_packet (text ++ b ∷ [])) 0) (length_in Two (last_packet (text ++ b ∷ []))) ≡ None =
-      none_holds _ _ _ _ _ _ (isnt (length (last_packet (text ++ b ∷ []))) 1 (λ one. omega (arith, one, longer, ahead.begun)))
-      (isnt (length (last_packet (text ++ b ∷ []))) 3 (λ three. omega (arith, three, longer, ahead.begun))) in
+      let fine : head_fault 3 (length text) (length (last_packet (text ++ b ∷ []))) (slice_index (last_packet (text ++ b ∷ [])) 0) (length_in Two (last_packet (text ++ b ∷ []))) ≡ None =
+      none_holds _ _ _ _ _ _ (ne_eqb (length (last_packet (text ++ b ∷ []))) 1 (λ one. omega (arith, one, longer, ahead.begun)))
+      (ne_eqb (length (last_packet (text ++ b ∷ []))) 3 (λ three. omega (arith, three, longer, ahead.begun))) in
       let good : bad_print (text ++ b ∷ []) ≡ false =
       ap (λ c. list_any (λ print. c && nat_lt 10 (count_ones print.mask)) (completed all_sent_prints t)) still_sound ∙ none_passes (completed all_sent_prints t) in
       met_packet limit text b (late limit text (suc n) ahead) (omega (arith, ahead.room))

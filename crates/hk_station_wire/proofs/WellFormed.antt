@@ -55,7 +55,7 @@ fits_next limit text b before fine long_enough =
           absurd (omega (arith, none, long_enough))
       | inl late ↦
           let bytes : List ℕ = last_packet (text ++ b ∷ []) in
-          let head : head_fault (length text) (length bytes) (slice_index bytes 0) (length_in Two bytes) ≡ None =
+          let head : head_fault 3 (length text) (length bytes) (slice_index bytes 0) (length_in Two bytes) ≡ None =
           first_none _ _ (sym (met_packet limit text b late.1 (met_room limit text b parts.1)) ∙ parts.1) in
           let row : ((length bytes == 3) && not (station_length_fits (slice_index bytes 0) (length_in Two bytes))) ≡ false =
           second_row ((length bytes == 1) && not (is_kind (slice_index bytes 0))) ((length bytes == 3) && not (station_length_fits (slice_index bytes 0) (length_in Two bytes)))

@@ -3,10 +3,9 @@ use Rattle.std.specs.Prelude.{ℕ, ◌-◌, ◌==◌, Bool, ◌&&◌, nat_lt, Li
 use Rattle.std.specs.Option.{option_map_or}
 use Rattle.std.specs.List.{last_or}
 use Rattle.hk_base.specs.declared.plain.Print.{Print}
-use Rattle.hk_base.specs.declared.plain.Form.{Form}
 use Rattle.hk_spec_streams.specs.Pieces.{last_bytes}
 use Rattle.hk_spec_streams.specs.Grammar.{packets, head_size}
-use Rattle.hk_spec_streams.specs.Station.{station_grammar, width_in, segments, sent_prints, channels_of, factor_of, DATA, GAP}
+use Rattle.hk_spec_streams.specs.Station.{station_grammar, width_in, segments, sent_prints, DATA, GAP}
 
 -- the bytes of the last packet that are there
 abbrev pub last_packet : List ℕ → List ℕ
@@ -38,6 +37,3 @@ all_sent_prints text = flat_map sent_prints (segments text)
 -- the segment that the next data byte belongs to
 abbrev pub last_segment : List ℕ → List ℕ
 last_segment text = option_map_or (λ segment. segment) (last_or None (segments text)) []
-
-abbrev pub form_of : List ℕ → Form
-form_of text = record { channels = channels_of text; factor = factor_of text }

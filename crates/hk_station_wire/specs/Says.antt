@@ -1,16 +1,10 @@
 -- What an item tells of a text and its last byte: how the segments, the sent prints and the fences grew.
-use Rattle.std.specs.Prelude.{◌≡◌, ℕ, ◌==◌, Bool, true, false, nat_le, if◌then◌else◌, List, [], ◌∷◌, ◌++◌, length, Some, None}
+use Rattle.std.specs.Prelude.{◌≡◌, ℕ, ◌==◌, Bool, true, false, List, [], ◌∷◌, ◌++◌, length, Some, None}
 use Rattle.hk_base.specs.declared.plain.Form.{Form}
 use Rattle.hk_base.specs.declared.plain.Print.{Print}
 use Rattle.hk_base.specs.declared.plain.WireFault.{WireFault}
-use Rattle.hk_spec_streams.specs.Station.{station_fault, station_seen, segments, sent_prints, fences}
-use Rattle.hk_station_wire.specs.LastPacket.{all_sent_prints, form_of, gap_is_open}
-use Rattle.hk_station_wire.specs.declared.item.Item.{Item}
-use Rattle.hk_station_wire.specs.declared.item.Item.TheVariants as item
-
--- the form of a text whose hello is whole, and before that the form of a stream of prints
-abbrev pub heard_form : List ℕ → Form
-heard_form text = if nat_le 6 (length text) then form_of text else record { channels = 0; factor = 1 }
+use Rattle.hk_spec_streams.specs.Station.{heard_form, ends_hello, station_fault, station_seen, segments, sent_prints, fences}
+use Rattle.hk_station_wire.specs.LastPacket.{all_sent_prints, gap_is_open}
 
 -- it tells of prints
 abbrev pub hears_prints : List ℕ → Bool
@@ -47,7 +41,7 @@ pub record SaysNothing (limit : ℕ) (text : List ℕ) (byte : ℕ) : Type 0 whe
 
 pub record SaysHello (form : Form) (limit : ℕ) (text : List ℕ) (byte : ℕ) : Type 0 where
   pub no_fault : NoFault limit text byte
-  pub sixth : length text ≡ 5
+  pub last : ends_hello (text ++ byte ∷ []) ≡ true
   pub form_is : form ≡ heard_form (text ++ byte ∷ [])
   pub no_gap_before : gap_is_open text ≡ false
   pub no_gap_after : gap_is_open (text ++ byte ∷ []) ≡ false
@@ -92,13 +86,3 @@ pub record SaysGap (limit : ℕ) (text : List ℕ) (byte : ℕ) : Type 0 where
 pub record SaysFault (fault : WireFault) (limit : ℕ) (text : List ℕ) (byte : ℕ) : Type 0 where
   pub is_fault : station_fault limit (text ++ byte ∷ []) ≡ Some fault
   pub seen_stays : station_seen limit (text ++ byte ∷ []) ≡ station_seen limit text
-
--- what the item tells that a byte behind a text brings
-abbrev pub Says : Item → ℕ → List ℕ → ℕ → Type 0
-Says item.Nothing limit text byte = SaysNothing limit text byte
-Says (item.Hello form) limit text byte = SaysHello form limit text byte
-Says (item.Byte sound) limit text byte = SaysByte sound limit text byte
-Says (item.Print print) limit text byte = SaysPrint print limit text byte
-Says (item.Fence asked) limit text byte = SaysFence asked limit text byte
-Says item.Gap limit text byte = SaysGap limit text byte
-Says (item.Fault fault) limit text byte = SaysFault fault limit text byte

@@ -1,8 +1,7 @@
 -- Bytes of sound behind a text.
 use Rattle.std.specs.Prelude.{◌≡◌, ℕ, ◌+◌, ◌≤◌, ⊤, false, List, [], ◌∷◌, ◌++◌, length, slice_index, None}
-use Rattle.std.specs.Int.{w16}
 use Rattle.hk_spec_streams.specs.Grammar.{packet_size}
-use Rattle.hk_spec_streams.specs.Station.{station_fault, DATA}
+use Rattle.hk_spec_streams.specs.Station.{width_in, station_fault, DATA}
 use Rattle.hk_station_wire.specs.LastPacket.{last_packet}
 use Rattle.hk_station_wire.specs.Items.{carries_prints, item_at}
 use Rattle.hk_station_wire.specs.declared.item.Item.TheVariants.{Byte}
@@ -18,5 +17,5 @@ pub record SoundAhead (limit : ℕ) (text : List ℕ) (count : ℕ) : Type 0 whe
   pub sound : carries_prints text ≡ false
   pub kind : slice_index (last_packet text) 0 ≡ DATA
   pub begun : 12 ≤ length (last_packet text)
-  pub inside : length (last_packet text) + count ≤ packet_size w16 (last_packet text)
+  pub inside : length (last_packet text) + count ≤ packet_size (width_in text) (last_packet text)
   pub room : length text + count ≤ limit

@@ -1,5 +1,5 @@
 -- A wire and the text that it has taken.
-use Rattle.std.specs.Prelude.{◌≡◌, ℕ, ◌<◌, List, [], ◌∷◌, ◌++◌, length, if◌then◌else◌, Option, Some, None, Result, Ok, Err}
+use Rattle.std.specs.Prelude.{◌≡◌, ℕ, List, [], ◌∷◌, ◌++◌, if◌then◌else◌, Option, Some, None, Result, Ok, Err}
 use Rattle.hk_base.specs.declared.plain.WireFault.{WireFault}
 use Rattle.hk_station_wire.specs.declared.item.Item.{Item}
 use Rattle.hk_station_wire.specs.declared.reader.Reader.{Reader}
@@ -8,7 +8,7 @@ use Rattle.hk_wire.specs.Held.{gathered, IsLast, count_of}
 use Rattle.hk_wire.specs.Kept.{Keeps}
 use Rattle.hk_station_wire.specs.Items.{item_of, carries_prints}
 use Rattle.hk_spec_sound.specs.Groups.{rest_of}
-use Rattle.hk_spec_streams.specs.Station.{channels_of, factor_of, station_met}
+use Rattle.hk_spec_streams.specs.Station.{HasTold, station_met}
 use Rattle.hk_station_wire.specs.LastPacket.{last_packet, last_segment}
 
 -- how many bytes of the last packet came
@@ -19,17 +19,15 @@ packet_count reader = count_of reader.packet
 abbrev pub unfinished_print : List ℕ → List ℕ
 unfinished_print text = if carries_prints text then rest_of 8 (last_segment text) else []
 
--- The reader stands at the end of a text without a fault: it has the form, the last packet and the unfinished print.
+-- The reader stands at the end of a text without a fault: it has what the hello told, the last packet and the unfinished print.
 pub record StandsAfter (reader : Reader) (text : List ℕ) : Type 0 where
-  pub channels : 4 < length text → reader.form.channels ≡ channels_of text
-  pub factor : 5 < length text → reader.form.factor ≡ factor_of text
+  pub told : HasTold text reader.told
   pub packet : IsLast reader.packet (last_packet text)
   pub group : gathered reader.group ≡ unfinished_print text
 
 -- The same behind the hello, where one byte more came to the last packet and to nothing else yet.
 pub record HasByte (reader : Reader) (text : List ℕ) (byte : ℕ) : Type 0 where
-  pub channels : reader.form.channels ≡ channels_of text
-  pub factor : reader.form.factor ≡ factor_of text
+  pub told : HasTold text reader.told
   pub packet : IsLast reader.packet (last_packet (text ++ byte ∷ []))
   pub group : gathered reader.group ≡ unfinished_print text
 

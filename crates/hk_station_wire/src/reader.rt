@@ -8,7 +8,7 @@ ghost use Rattle.hk_wire.specs.declared.packet.LengthSize.TheVariants.{Two};
 
 use crate::item::Item;
 use hk_base::{Form, Print, WireFault};
-use hk_limits::{FLIPS, allows_channels, allows_factor};
+use hk_limits::{Range, allows_channels, allows_factor};
 use hk_wire::{Gathered, LastPacket, LengthSize};
 
 pub const HELLO_SIZE: u64 = 6;
@@ -24,14 +24,14 @@ const GAP: u8 = 3;
 
 const PRINT_SIZE: usize = 8;
 
-/// The form, the last packet, and what the last segment has beyond its whole prints.
+/// What the hello told, the last packet, and what the last segment has beyond its whole prints.
 #[derive(Debug, Drop)]
 pub struct Reader {
-    form: Form,
+    told: Form,
     packet: LastPacket,
     group: Gathered,
     ghost short_lengths: { length_size packet ≡ Two },
-    ghost few_channels: { form.channels ≤ 2 },
+    ghost few_channels: { told.channels ≤ 2 },
 }
 
 impl Reader {
@@ -44,7 +44,7 @@ impl Reader {
         ensures none { packet_count result ≡ 0 }
     {
         Reader {
-            form: Form {
+            told: Form {
                 channels: 0,
                 factor: 0,
             },
@@ -76,7 +76,7 @@ impl Reader {
         ensures { (limit count : ℕ) (text : List ℕ) → StandsAfter self.now text → station_fault limit text ≡ None
             → 0 < count → count ≤ result → length text + count ≤ limit → SoundAhead limit text count }
     {
-        if self.form.channels == 0 || self.packet.kind() != DATA || self.packet.count() < 12 {
+        if self.told.channels == 0 || self.packet.kind() != DATA || self.packet.count() < 12 {
             return 0;
         }
         let size = HEAD_SIZE + u64::from(self.packet.length());
@@ -108,14 +108,14 @@ impl Reader {
         ensures brings { (limit : ℕ) (text : List ℕ) → place ≡ length text → place < limit → StandsAfter self.old text
             → TellsItem result self.new limit (text ++ byte ∷ []) }
     {
-        if !hello_allows(place, self.form.channels, byte) {
+        if !hello_allows(place, self.told.channels, byte) {
             return Err(WireFault::BadHello(place));
         }
         match place {
-            4 => self.form.channels = byte,
+            4 => self.told.channels = byte,
             5 => {
-                self.form.factor = byte;
-                return Ok(Item::Hello(self.form));
+                self.told.factor = byte;
+                return Ok(Item::Hello(self.told));
             }
             _ => {}
         }
@@ -137,7 +137,7 @@ impl Reader {
             return Err(fault);
         }
         match part_of(kind, count) {
-            Part::Data if self.form.channels != 0 => Ok(Item::Byte(byte)),
+            Part::Data if self.told.channels != 0 => Ok(Item::Byte(byte)),
             Part::Data => take_print(&mut self.group, place, byte),
             Part::FenceEnd => Ok(Item::Fence(self.packet.number(3))),
             Part::GapBegin => {
@@ -161,7 +161,8 @@ enum Part {
 }
 
 ghost use Rattle.hk_station_wire.specs.Items.{is_fault, HasForm};
-ghost use Rattle.hk_station_wire.specs.Steps.{hello_allows, is_kind, head_fault, part_of, left_of_print, print_outcome};
+ghost use Rattle.hk_spec_streams.specs.Station.{hello_allows};
+ghost use Rattle.hk_station_wire.specs.Steps.{is_kind, head_fault, part_of, left_of_print, print_outcome};
 
 fn hello_allows(place: u64, channels: u8, byte: u8) -> bool
     requires { place < 6 }
@@ -203,7 +204,7 @@ fn length_fits(kind: u8, length: u32) -> bool
 
 fn head_fault(place: u64, count: u64, kind: u8, packet_length: u32) -> Option<WireFault>
     requires { 6 ≤ place }
-    ensures { result ≡ head_fault place count kind packet_length }
+    ensures { result ≡ head_fault 3 place count kind packet_length }
 {
     match count {
         1 if !is_kind(kind) => Some(WireFault::BadKind(place)),
@@ -215,7 +216,7 @@ fn head_fault(place: u64, count: u64, kind: u8, packet_length: u32) -> Option<Wi
 }
 
 fn part_of(kind: u8, count: u64) -> Part
-    ensures { result ≡ part_of kind count }
+    ensures { result ≡ part_of 3 kind count }
 {
     match kind {
         DATA if count > HEAD_SIZE => Part::Data,
@@ -242,7 +243,7 @@ fn take_print(group: &mut Gathered, place: u64, byte: u8) -> Result<Item, WireFa
         mask: group.number(4),
     };
     *group = Gathered::new();
-    if u64::from(print.mask.count_ones()) > FLIPS.most {
+    if u64::from(print.mask.count_ones()) > Range::FLIPS.most {
         return Err(WireFault::BadMask(place));
     }
     Ok(Item::Print(print))

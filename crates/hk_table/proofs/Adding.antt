@@ -7,7 +7,7 @@ use Rattle.std.proofs.lemmas.List.Sums.{sum_by-cons}
 use Rattle.hk_nodes.specs.Chains.{END, Has, AllBelow}
 use Rattle.hk_nodes.specs.Store.{Store, IsLive, IsHead, IsOrderly, chain_at, song_at, with_node}
 use Rattle.hk_nodes.proofs.Walks.{nodes_are}
-use Rattle.hk_nodes.proofs.Taking.{song_of}
+use Rattle.hk_nodes.proofs.Taking.{song_behind}
 use Rattle.hk_table.specs.Walks.{node_word}
 use Rattle.hk_table.specs.Songs.{AreWritten, IsSame, IsLonger}
 
@@ -22,7 +22,7 @@ below_has values bound x (y ∷ ys) all (inr later) = below_has values bound x y
 -- the nodes of a song are live
 pub live_in_song : (m : Store) (head x : ℕ) → IsOrderly m → (head ≡ END) ⊎ IsHead m head → Has x (song_at m head) → IsLive m x
 live_in_song m head x orderly begins has =
-    below_has m.bucket_of (length m.chains) x (song_at m head) (song_of m head orderly.fits orderly begins).live has
+    below_has m.bucket_of (length m.chains) x (song_at m head) (song_behind m head orderly.fits orderly begins).live has
 
 pub not_live_end : (m : Store) → IsOrderly m → IsLive m END → ⊥
 not_live_end m orderly live =

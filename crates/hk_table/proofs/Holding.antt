@@ -7,7 +7,7 @@ use Rattle.std.proofs.lemmas.List.Sums.{sum_by-cons}
 use Rattle.hk_nodes.specs.Chains.{END, Has, without}
 use Rattle.hk_nodes.specs.Store.{Store, IsLive, IsHead, IsOrderly, IsSong, chain_at, song_at, without_song}
 use Rattle.hk_nodes.proofs.Walks.{lacks_has}
-use Rattle.hk_nodes.proofs.Taking.{song_of}
+use Rattle.hk_nodes.proofs.Taking.{song_behind}
 use Rattle.hk_nodes.proofs.Giving.{chain_less, song_split}
 use Rattle.hk_nodes.proofs.Songs.{live_was, freed_other, length_without, count_in}
 use Rattle.hk_table.specs.Index.{words_in, all_words}
@@ -188,7 +188,7 @@ module _ (bucket : ℕ → ℕ) (slot : ℕ) (m t : Store) (heads : List ℕ) (h
   song = song_at m head
 
   is_song : IsSong m head song
-  is_song = song_of m head hold.orderly.fits hold.orderly (inr is_head)
+  is_song = song_behind m head hold.orderly.fits hold.orderly (inr is_head)
 
   pub slots_without : slots_in t (set heads slot END) ≡ set (slots_in m heads) slot None
   slots_without = ap (λ (s : Store). slots_in s (set heads slot END)) given ∙ map-set (slot_in m) heads slot END

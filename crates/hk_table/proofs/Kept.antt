@@ -4,11 +4,11 @@ use Rattle.std.specs.List.{count_by}
 use Rattle.std.specs.Option.{IsSome}
 use Rattle.std.specs.Vec.{with_item}
 use Rattle.std.proofs.lemmas.Bool.{cases_lt}
-use Rattle.std.proofs.lemmas.List.{length-map, length-replicate, get_or_past, get_or-replicate}
+use Rattle.std.proofs.lemmas.List.{length-map, length-replicate, get_or_past}
 use Rattle.hk_spec_matching.specs.Buckets.{bucket_bits}
 use Rattle.hk_nodes.specs.Chains.{END}
 use Rattle.hk_nodes.specs.Store.{Store, IsHead, IsOrderly, song_at, new_store, without_song}
-use Rattle.hk_nodes.proofs.Fresh.{not_live, empty_at}
+use Rattle.hk_nodes.proofs.Fresh.{not_live, empty_at, none_at}
 use Rattle.hk_table.specs.Index.{Index, all_words, room, slot_at, new_index, with_words_at, without_words_at}
 use Rattle.hk_table.specs.Songs.{bucket_at, as_index, HoldSongs, IsKept, IsLonger, slots_in, slot_in}
 use Rattle.hk_table.specs.declared.table.Table.TheInside.{Inside}
@@ -104,12 +104,6 @@ no_slots : (m : Store) (n : ℕ) → slots_in m (replicate n END) ≡ replicate 
 no_slots m zero = refl
 no_slots m (suc n) = ap (λ ss. None ∷ ss) (no_slots m n)
 
-head_none : (n slot : ℕ) → get_or (replicate n END) slot END ≡ END
-head_none n slot = elim (cases_lt slot n) [
-  | inl low ↦ get_or-replicate n slot END END low
-  | inr past ↦ get_or_past (replicate n END) slot END (omega (arith, past, length-replicate n END))
-]
-
 pub hold_none : (bucket : ℕ → ℕ) (positions buckets songs : ℕ) → buckets ≤ 2 ^ 20 → IsOrderly (new_store positions buckets)
     → HoldSongs bucket (new_store positions buckets) (replicate songs END)
 hold_none bucket positions buckets songs few orderly =
@@ -117,7 +111,7 @@ hold_none bucket positions buckets songs few orderly =
     let none : all_words (slots_in m (replicate songs END)) ≡ [] = ap all_words (no_slots m songs) ∙ no_words songs in
     record {
       orderly = orderly;
-      songs = λ slot low. inl (head_none songs slot);
+      songs = λ slot low. inl (none_at songs slot);
       owned = λ x live. absurd (not_live positions buckets x few live);
       counts = λ value. ap length (empty_at buckets value) ∙ sym (ap (count_by (λ w. bucket w == value)) none);
       all = omega (arith, ap length none, length-replicate positions END);

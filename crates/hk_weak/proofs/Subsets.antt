@@ -4,7 +4,7 @@ use Rattle.std.specs.Int.Bits.{bit_and}
 use Rattle.std.specs.List.{filter, range_with_len}
 use lib.Bits.{and_self}
 use Rattle.std.proofs.lemmas.Nat.{and_le_l, and_le_r, and_comm, and_mask, and_shr, and_mod, and_assoc, and-not}
-use Rattle.std.proofs.lemmas.Bool.{cases_eq}
+use Rattle.std.proofs.lemmas.Bool.{cases_eq, ne_eqb}
 use Rattle.std.proofs.lemmas.Bool.Decides.{nat_tests}
 use Rattle.hk_spec_matching.specs.Cost.{subsets}
 use Rattle.hk_weak.specs.Left.{subsets_from}
@@ -68,9 +68,6 @@ skip_to p (suc gap) a n b rest count start none =
     ∙ ap (λ passes. cond passes (a ∷ filter p (range_with_len (a + 1) (gap + rest))) (filter p (range_with_len (a + 1) (gap + rest)))) (none a (omega arith) (omega arith))
     ∙ skip_to p gap (a + 1) (gap + rest) b rest refl (omega arith) (λ u low high. none u (omega arith) high)
 
-unequal : (n u : ℕ) → (n ≡ u → ⊥) → (n == u) ≡ false
-unequal n u other = grind (arith, nat_tests)
-
 -- a subset is the first of those from it on
 first_from : (m s rest : ℕ) → IsSubset s m → m + 1 - s ≡ suc rest
     → subsets_from m (Some s) ≡ s ∷ filter (λ u. bit_and u m == u) (range_with_len (s + 1) rest)
@@ -101,7 +98,7 @@ subsets_from-next w m s t m_low inside less is =
     let later : s < t = omega (arith, and_le_l (m - s - 1) m, and_le_r (m - s - 1) m) in
     let within : t ≤ m = omega arith in
     let none : (u : ℕ) → s + 1 ≤ u → u < t → p u ≡ false = λ u above below.
-    unequal (bit_and u m) u (λ u_inside.
+    ne_eqb (bit_and u m) u (λ u_inside.
     let d_low : m - s < 2 ^ w = omega arith in
     let u_low : u < 2 ^ w = omega arith in
     let most = greatest_below w (m - s) m (m - u) d_low (left_out_is_subset w s m (omega arith) m_low inside) (left_out_is_subset w u m u_low m_low u_inside) (omega arith) in

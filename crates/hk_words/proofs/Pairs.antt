@@ -14,7 +14,8 @@ use Rattle.hk_spec_runs.specs.Options.{fits as values_fit}
 use Rattle.hk_spec_runs.specs.Words.{paired, each_once, is_given, options_of, number_written, given_or, default_of}
 use Rattle.hk_words.specs.declared.choice.Choice as Choices
 use Rattle.hk_words.specs.Choices.{choice_of, is_choice, gives, highest}
-use Rattle.hk_words.specs.Options.{word_texts, pairs_of, behind, are_options, value_fits, RunValuesFit, PrintValuesFit}
+use Rattle.hk_words.specs.Options.{word_texts, pairs_of, behind, are_options, value_fits}
+use Rattle.hk_words.specs.Rules.{RunValuesFit, PrintValuesFit}
 
 pub any-map : {A B : Type 0} (f : A → B) (t : B → Bool) (xs : List A) → list_any (λ x. t (f x)) xs ≡ list_any t (map f xs)
 any-map f t [] = refl

@@ -1,6 +1,6 @@
 -- Options word by word.
-use Rattle.std.specs.Prelude.{◌≡◌, ℕ, Bool, false, true, not, ◌&&◌, if◌then◌else◌, List, [], ◌∷◌, map, Option, Some, None, is_some, String, string_bytes, bytes_eq}
-use Rattle.hk_spec_runs.specs.Options.{Choice, FLIPS, HOP, SONGS, POSITIONS, VERSIONS, BYTES, CHANNELS, FACTOR, fits}
+use Rattle.std.specs.Prelude.{ℕ, Bool, false, true, not, ◌&&◌, if◌then◌else◌, List, [], ◌∷◌, map, Option, Some, None, is_some, String, string_bytes, bytes_eq}
+use Rattle.hk_spec_runs.specs.Options.{Choice, fits}
 use Rattle.hk_spec_runs.specs.Words.{is_given, value_of}
 
 -- the words' bytes
@@ -29,20 +29,3 @@ are_options choices (name ∷ number ∷ words) =
 -- whether an option's value, given or not, is one that it may have
 abbrev pub value_fits : List (List ℕ) → Choice → Bool
 value_fits words c = fits c.values (value_of (pairs_of words) c)
-
--- the value of each option of a run fits
-pub record RunValuesFit (words : List (List ℕ)) (chosen : Choice) : Type 0 where
-  pub stations : value_fits words chosen ≡ true
-  pub flips : value_fits words FLIPS ≡ true
-  pub hop : value_fits words HOP ≡ true
-  pub songs : value_fits words SONGS ≡ true
-  pub positions : value_fits words POSITIONS ≡ true
-  pub versions : value_fits words VERSIONS ≡ true
-  pub bytes : value_fits words BYTES ≡ true
-
--- the value of each option of `print` fits
-pub record PrintValuesFit (words : List (List ℕ)) : Type 0 where
-  pub channels : value_fits words CHANNELS ≡ true
-  pub factor : value_fits words FACTOR ≡ true
-  pub flips : value_fits words FLIPS ≡ true
-  pub bytes : value_fits words BYTES ≡ true

@@ -1,4 +1,4 @@
-// The options, one row an option.
+// What an option is.
 ghost use Rattle.std.specs.Prelude.{◌≡◌, false};
 ghost use Rattle.std.specs.Option.{option_map_or};
 ghost use Rattle.hk_spec_runs.specs.Options.{fits, is_taken};
@@ -45,111 +45,6 @@ pub struct Choice {
     pub print: bool,
     pub make: bool,
 }
-
-pub const STATIONS: Choice = Choice {
-    name: "--stations",
-    values: Values::Within(hk_limits::STATIONS),
-    default: Default::Number(1),
-    replay: true,
-    print: false,
-    make: false,
-};
-
-/// The same for `make`.
-pub const MADE_STATIONS: Choice = Choice {
-    name: "--stations",
-    values: Values::Within(hk_limits::STATIONS),
-    default: Default::Number(4),
-    replay: false,
-    print: false,
-    make: true,
-};
-
-pub const FLIPS: Choice = Choice {
-    name: "--flips",
-    values: Values::Within(hk_limits::FLIPS),
-    default: Default::Number(4),
-    replay: true,
-    print: true,
-    make: true,
-};
-
-pub const HOP: Choice = Choice {
-    name: "--hop",
-    values: Values::Within(hk_limits::HOP),
-    default: Default::Number(64),
-    replay: true,
-    print: false,
-    make: true,
-};
-
-pub const SONGS: Choice = Choice {
-    name: "--songs",
-    values: Values::Within(hk_limits::SONGS),
-    default: Default::Number(1000),
-    replay: true,
-    print: false,
-    make: false,
-};
-
-pub const POSITIONS: Choice = Choice {
-    name: "--positions",
-    values: Values::Within(hk_limits::POSITIONS),
-    default: Default::Number(1048576),
-    replay: true,
-    print: false,
-    make: false,
-};
-
-pub const VERSIONS: Choice = Choice {
-    name: "--versions",
-    values: Values::Within(hk_limits::VERSIONS),
-    default: Default::Number(1000000),
-    replay: true,
-    print: false,
-    make: false,
-};
-
-pub const BYTES: Choice = Choice {
-    name: "--bytes",
-    values: Values::Within(hk_limits::BYTES),
-    default: Default::Number(1000000000000),
-    replay: true,
-    print: true,
-    make: false,
-};
-
-pub const CHANNELS: Choice = Choice {
-    name: "--channels",
-    values: Values::Channels,
-    default: Default::Number(1),
-    replay: false,
-    print: true,
-    make: false,
-};
-
-pub const FACTOR: Choice = Choice {
-    name: "--factor",
-    values: Values::Factors,
-    default: Default::Number(8),
-    replay: false,
-    print: true,
-    make: false,
-};
-
-/// The options of all commands.
-pub const OPTIONS: [Choice; 10] = [
-    STATIONS,
-    MADE_STATIONS,
-    FLIPS,
-    HOP,
-    SONGS,
-    POSITIONS,
-    VERSIONS,
-    BYTES,
-    CHANNELS,
-    FACTOR,
-];
 
 impl Values {
     /// Whether a value is one of these.

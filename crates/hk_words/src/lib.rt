@@ -9,7 +9,9 @@ mod choice;
 mod number;
 mod options;
 mod order;
+mod rules;
 #[cfg(test)]
 mod tests;
 
-pub use order::{Order, PrintRules, RunRules, read_words};
+pub use order::{Order, read_words};
+pub use rules::{PrintRules, RunRules};

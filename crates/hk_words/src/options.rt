@@ -5,8 +5,9 @@ ghost use Rattle.hk_spec_runs.specs.Words.{is_given, given_or, default_of, value
 ghost use Rattle.hk_words.specs.Choices.{verb_meant, default_meant, choice_of, highest};
 ghost use Rattle.hk_words.specs.Options.{word_texts, pairs_of, behind, are_options, value_fits};
 
-use crate::choice::{Choice, Default, OPTIONS, Verb};
+use crate::choice::{Choice, Default, Verb};
 use crate::number::read_number;
+use crate::rules::OPTIONS;
 
 /// Whether the words are options that a command takes, each with a value that it may have, and none twice.
 pub fn are_options(words: &[String], verb: Verb) -> bool

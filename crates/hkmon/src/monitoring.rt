@@ -2,7 +2,7 @@
 ghost use Rattle.std.specs.Prelude.{◌≡◌, ◌≢◌, ◌⊎◌, None, Some, List};
 ghost use Rattle.hk_outside.specs.declared.door.Start.TheVariants as starts;
 ghost use Rattle.hk_base.specs.Devices.{Rose};
-ghost use Rattle.hk_spec_monitor.specs.Devices.{IsUnused, HasAll};
+ghost use Rattle.hk_spec_monitor.specs.Devices.{asks_in_order, IsUnused, WasRefused, AllAreBack, HasAll};
 ghost use Rattle.hk_spec_monitor.specs.Run.{Run};
 ghost use Rattle.hk_spec_monitor.specs.Setup.{Setup, setup_asked};
 ghost use Rattle.hk_spec_monitor.specs.Summary.{Concludes, ENDED, IN_DISORDER, MISMATCH};
@@ -19,7 +19,7 @@ use std::sync::Wait;
 use std::thread::Threads;
 
 /// Monitors as the words ask for, and closes the desk that is kept. It waits for the streams. What is said of it is what
-/// `monitor_top` says.
+/// `monitor_top` says, but of a desk and readings that nobody has any more.
 pub fn monitor<R: Threads + Wait + Clone + Send + Sync + Drop, D: Door, K: Sink>(
     rt: &R,
     alloc: Global,
@@ -37,6 +37,9 @@ pub fn monitor<R: Threads + Wait + Clone + Send + Sync + Drop, D: Door, K: Sink>
     ensures door_fault { result.code ≡ DOOR_FAULT → Rose (D.doorway door.old).faults (D.doorway door.new).faults }
     ensures no_door_failed { result.code ≢ DOOR_FAULT → (D.doorway door.new).faults ≡ (D.doorway door.old).faults }
     ensures asked { (D.doorway door.new).start ≢ starts.Unstarted → (setup : Setup) × (setup_asked words.now.items ≡ Some setup) × WasAskedFor setup (D.doorway door.new) }
+    ensures refused_by_door { IsRefusal result.code → (D.doorway door.new).start ≢ starts.Unstarted
+        → (setup : Setup) × (setup_asked words.now.items ≡ Some setup) × WasRefused (asks_in_order setup) (D.doorway door.new) }
+    ensures all_back { (D.doorway door.new).start ≢ starts.Unstarted → AllAreBack (D.doorway door.new) }
     ensures handed_back { HasAll (D.doorway door.old) → HasAll (D.doorway door.new) }
     ensures ran { IsOfRun result.code → (setup : Setup) × (desk : Holding) × (readings : List Known) × (run : Run) × (setup_asked words.now.items ≡ Some setup)
         × HasMonitored setup (D.doorway door.old) (D.doorway door.new) desk readings run

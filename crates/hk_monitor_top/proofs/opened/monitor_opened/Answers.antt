@@ -4,9 +4,10 @@ use Rattle.std.proofs.lemmas.Option.{slice_get-get_or}
 use Rattle.hk_spec_monitor.proofs.Legal.{some_of}
 use Rattle.hk_station.specs.Hearing.{kept_end}
 use Rattle.hk_monitor.specs.Crew.{run_of}
+use Rattle.hk_monitor.proofs.Gathering.{entry}
 use Rattle.hk_monitor_top.specs.Ends.{TellEnds}
 use Rattle.hk_monitor_top.specs.Ready.{rules_by}
-use Rattle.hk_monitor_top.proofs.AtDoor.{all_over, clerk_over, pairs_many, stations_many', gates_many, at, all_hearing, ends_told, has_monitored, has_all, same_operator}
+use Rattle.hk_monitor_top.proofs.AtDoor.{all_over, clerk_over, pairs_many, stations_many', gates_many, all_hearing, ends_told, has_monitored, has_all, same_operator}
 use Rattle.hk_monitor_top.proofs.opened.monitor_opened.Goals as goal
 
 pub run_rows-requires-clause-going : goal.run_rows-requires-clause-going
@@ -54,7 +55,7 @@ return_all-requires-clause-stations_out g c = λ l lives n inside.
     c.requires.manned.full c.requires.manned.worker_each _ c.run_rows.new.clerk c.run_rows.new.desk
     (c.run_rows.ensures.ran (rules_by c.args.plan.now) (all_hearing (rules_by c.args.plan.now) c.args.ready.rows.stations.items c.requires.manned.numbered) c.requires.manned.operator) in
     let each = c.requires.manned.full.pair_each in
-    let pair = at c.args.ready.rows.pairs.items n (omega (arith, inside, many, each)) in
+    let pair = entry c.args.ready.rows.pairs.items n (omega (arith, inside, many, each)) in
     c.requires.opened.1.stations.out n pair.0 pair.1
 
 pub return_all-requires-clause-gates_out : goal.return_all-requires-clause-gates_out
@@ -64,7 +65,7 @@ return_all-requires-clause-gates_out g c = λ l lives w inside.
     c.requires.manned.full c.requires.manned.worker_each _ c.run_rows.new.clerk c.run_rows.new.desk
     (c.run_rows.ensures.ran (rules_by c.args.plan.now) (all_hearing (rules_by c.args.plan.now) c.args.ready.rows.stations.items c.requires.manned.numbered) c.requires.manned.operator) in
     let each = c.requires.manned.worker_each in
-    let gate = at c.args.ready.rows.gates.items w (omega (arith, inside, many, each)) in
+    let gate = entry c.args.ready.rows.gates.items w (omega (arith, inside, many, each)) in
     c.requires.opened.1.gates.out w gate.0 gate.1
 
 pub return_all-requires-clause-few_stations : goal.return_all-requires-clause-few_stations

@@ -2,6 +2,7 @@ use Rattle.std.proofs.Common.{◌≡◌, ◌∙◌, ◌⊎◌, inr, sym, ap, sub
 use Rattle.hk_monitor_top.specs.Ready.{setup_by}
 use Rattle.hk_monitor_top.specs.Statuses.{NO_MEMORY, DOOR_FAULT, IsOfRun, code_of, refusal_by}
 use Rattle.hk_monitor_top.proofs.Deciding.{of_run, not_refused, known_fault, refused_by, fault_rose, no_fault, asked_refused, asked_all}
+use Rattle.hk_monitor_top.proofs.Returning.{used_back}
 use Rattle.hk_monitor_top.proofs.planned.monitor_ready.Goals as goal
 
 pub returns-in-Ok-clause-known : goal.returns-in-Ok-clause-known
@@ -31,7 +32,17 @@ returns-in-Ok-clause-door_fault g c = λ is.
 
 pub returns-in-Ok-clause-asked : goal.returns-in-Ok-clause-asked
 returns-in-Ok-clause-asked g c =
-    asked_all (setup_by c.args.plan.now) _ (c.monitor_opened.ensures.same.plan ∙ c.in-Ok.ensures.plan) (c.monitor_opened.ensures.same.calls ∙ c.in-Ok.ensures.calls)
+    asked_all (setup_by c.args.plan.now) _ (c.monitor_opened.ensures.same.start ∙ c.in-Ok.ensures.start) (c.monitor_opened.ensures.same.plan ∙ c.in-Ok.ensures.plan) (c.monitor_opened.ensures.same.calls ∙ c.in-Ok.ensures.calls)
+
+pub returns-in-Ok-clause-refused_by_door : goal.returns-in-Ok-clause-refused_by_door
+returns-in-Ok-clause-refused_by_door g c = λ refused.
+    let ran = c.monitor_opened.ensures.ran (g.D.Door.doorway c.args.door.now) (record { start = c.in-Ok.ensures.start; plan_is = c.in-Ok.ensures.plan; calls = c.in-Ok.ensures.calls; stations = c.in-Ok.ensures.stations; gates = c.in-Ok.ensures.gates; operator = c.in-Ok.ensures.operator }) in
+    not_refused c.monitor_opened.result.code (of_run c.monitor_opened.result.code _ _ _ _ ran.1 ran.4) refused
+
+pub returns-in-Ok-clause-all_back : goal.returns-in-Ok-clause-all_back
+returns-in-Ok-clause-all_back g c =
+    let ran = c.monitor_opened.ensures.ran (g.D.Door.doorway c.args.door.now) (record { start = c.in-Ok.ensures.start; plan_is = c.in-Ok.ensures.plan; calls = c.in-Ok.ensures.calls; stations = c.in-Ok.ensures.stations; gates = c.in-Ok.ensures.gates; operator = c.in-Ok.ensures.operator }) in
+    used_back _ _ _ ran.3.used
 
 pub returns-in-Ok-clause-handed_back : goal.returns-in-Ok-clause-handed_back
 returns-in-Ok-clause-handed_back g c = c.monitor_opened.ensures.back (g.D.Door.doorway c.args.door.now) (record { start = c.in-Ok.ensures.start; plan_is = c.in-Ok.ensures.plan; calls = c.in-Ok.ensures.calls; stations = c.in-Ok.ensures.stations; gates = c.in-Ok.ensures.gates; operator = c.in-Ok.ensures.operator })

@@ -10,5 +10,5 @@ loop-number-preserved c = record {
   numbered = subst (AreNumbered (rules_by c.args.plan.now)) (sym c.push_reserved.ensures.items)
       (numbered_more (rules_by c.args.plan.now) c.loop-number.stations.items _ c.loop-number.invariant.numbered
       (c.in_ok-new.ensures.number ∙ sym c.loop-number.invariant.count)
-      (c.in_ok-new.ensures.unheard (rules_by c.args.plan.now) (record { block_size = refl; analysis = refl; flips_are = refl; hop_is = refl; limit_is = refl })));
+      (c.in_ok-new.ensures.unheard (rules_by c.args.plan.now) refl refl));
 }

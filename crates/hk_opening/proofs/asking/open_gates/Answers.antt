@@ -1,7 +1,7 @@
 use Rattle.std.proofs.Common.{◌≡◌, ◌∙◌, ◌+◌, ℕ, ap, arith}
 use Rattle.hk_outside.specs.Doors.{Doorway}
 use Rattle.hk_outside.specs.declared.door.Ask.TheVariants as asks
-use Rattle.hk_opening.proofs.Order.{gate_handed, gate_refused, one_more, refused_next, more_asked, more_given}
+use Rattle.hk_opening.proofs.Order.{gate_handed, gate_refused, one_more, refused_next, until_next, more_asked, more_given}
 use Rattle.hk_opening.proofs.Out.{gate_more}
 use Rattle.hk_opening.proofs.asking.open_gates.Goals as goal
 
@@ -10,6 +10,11 @@ returns-in-Err-clause-asked g c =
     let before = c.loop-number.invariant in
     refused_next asks.Gate c.args.count c.loop-number.number _ _ _ c.loop-number-test.true before.asked
     (gate_refused c.loop-number.number _ _ _ c.in-Err.ensures.refused.asked.calls before.counted)
+
+pub returns-in-Err-clause-last : goal.returns-in-Err-clause-last
+returns-in-Err-clause-last g c =
+    let before = c.loop-number.invariant in
+    until_next asks.Gate c.loop-number.number _ _ _ _ before.count before.asked (gate_refused c.loop-number.number _ _ _ c.in-Err.ensures.refused.asked.calls before.counted)
 
 pub loop-number-preserved : goal.loop-number-preserved
 loop-number-preserved g c =

@@ -1,5 +1,5 @@
 use Rattle.std.proofs.Common.{◌∙◌, ap}
-use Rattle.hk_opening.proofs.Unused.{WasClosed, stations_outside, gates_outside, unused, has_all}
+use Rattle.hk_opening.proofs.Unused.{WasClosed, stations_outside, gates_outside, unused, all_back, has_all}
 use Rattle.hk_opening.proofs.opening.open.Given.{Over}
 use Rattle.hk_opening.proofs.opening.open.Goals as goal
 
@@ -30,6 +30,10 @@ closed g c = record {
 
 pub returns-in-Err-clause-unused : goal.returns-in-Err-clause-unused
 returns-in-Err-clause-unused g c = unused g.D.Link.Link g.D.Log.Sink g.D.Gate.Gate.faults _ _ _ _ _ _ _ (closed g c)
+
+pub returns-in-Err-clause-all_back : goal.returns-in-Err-clause-all_back
+returns-in-Err-clause-all_back g c =
+    all_back g.D.Link.Link g.D.Log.Sink g.D.Gate.Gate.faults _ _ _ _ _ _ _ (closed g c) c.in-Err.ensures.only (c.return_stations.ensures.same.calls ∙ c.return_gates.ensures.same.calls)
 
 pub returns-in-Err-clause-back : goal.returns-in-Err-clause-back
 returns-in-Err-clause-back g c = has_all g.D.Link.Link g.D.Log.Sink g.D.Gate.Gate.faults _ _ _ _ _ _ _ (closed g c)

@@ -8,7 +8,7 @@ use Rattle.hk_probe.proofs.full_scan.scan.Goals as goal
 
 pub loop-n-init : goal.loop-n-init
 loop-n-init g c = record {
-  listed = c.clear.ensures.empty ∙ sym (matches_none (query_for c.new-block.result.prints));
+  listed = c.clear.ensures.empty ∙ sym (matches_none (query_for c.of-block.result.prints));
   few = omega (arith, ap length c.clear.ensures.empty);
   room = c.clear.ensures.room;
 }
@@ -31,7 +31,7 @@ list_song-requires g c =
 
 pub loop-n-preserved : goal.loop-n-preserved
 loop-n-preserved g c =
-    let query : Query = query_for c.new-block.result.prints in
+    let query : Query = query_for c.of-block.result.prints in
     let songs : Songs = songs_of c.args.catalogue.now in
     let low : c.loop-n.n < length songs = omega (arith, c.loop-n-test.true, c.count-n-end.ensures.count) in
     let song : get_or songs c.loop-n.n (entry_of c.nth.result) ≡ entry_of c.nth.result = get_or_from_slice_get songs c.loop-n.n (entry_of c.nth.result) (entry_of c.nth.result) c.nth.ensures in

@@ -4,10 +4,11 @@ use Rattle.std.proofs.lemmas.List.Sums.{sum_by_more}
 use Rattle.hk_spec_matching.specs.Catalogue.{Songs}
 use Rattle.hk_spec_matching.specs.Cost.{cost}
 use Rattle.hk_spec_matching.specs.Matching.{Query, matches, query_for}
-use Rattle.hk_block.specs.Looker.{query_of}
+use Rattle.hk_block.specs.Ring.{query_of}
 use Rattle.hk_catalogue.specs.Shelves.{songs_of}
+use Rattle.hk_catalogue.proofs.Shelving.{rising-songs}
 use Rattle.hk_probe.specs.Search.{nodes_by}
-use Rattle.hk_probe.proofs.Visits.{nothing_matches, put_print, print_fits, all_matches, nodes_are_cost, songs_rise}
+use Rattle.hk_probe.proofs.Visits.{nothing_matches, put_print, print_fits, all_matches, nodes_are_cost}
 use Rattle.hk_probe.proofs.table_search.look.Goals as goal
 
 pub returns-then-count-eq0 : goal.returns-then-count-eq0
@@ -26,7 +27,7 @@ loop-j-init g c = record {
 
 pub look_up_print-requires : goal.look_up_print-requires
 look_up_print-requires g c =
-    let query : Query = query_for c.new-block.result.prints in
+    let query : Query = query_for c.of-block.result.prints in
     let many : length query.prints ≡ 256 = omega arith in
     record {
       shelved = c.count.ensures.shelved;
@@ -37,7 +38,7 @@ look_up_print-requires g c =
 
 pub loop-j-preserved : goal.loop-j-preserved
 loop-j-preserved g c =
-    let query : Query = query_for c.new-block.result.prints in
+    let query : Query = query_for c.of-block.result.prints in
     let songs : Songs = songs_of c.args.catalogue.now in
     let many : length query.prints ≡ 256 = omega arith in
     let low : c.loop-j.j < length query.prints = omega (arith, many, c.loop-j-test.true) in
@@ -48,28 +49,28 @@ loop-j-preserved g c =
         arith,
         c.look_up_print.ensures.ticks,
         c.loop-j.invariant.ticks,
-        sum_by_more (nodes_by c.args.catalogue.now.store.positions songs) query.prints c.loop-j.j (record { word = 0; mask = 0 }) low,
+        sum_by_more (nodes_by c.args.catalogue.now.store.positions query songs) query.prints c.loop-j.j (record { word = 0; mask = 0 }) low,
       );
     }
 
 pub returns : goal.returns
 returns g c =
-    let query : Query = query_for c.new-block.result.prints in
+    let query : Query = query_for c.of-block.result.prints in
     let songs : Songs = songs_of c.args.catalogue.now in
     let positions = c.args.catalogue.now.store.positions in
     let many : length query.prints ≡ 256 = omega arith in
     let whole : length query.prints ≤ c.loop-j.j = omega (arith, many, c.loop-j-test.false) in
-    let is : query ≡ query_of c.args.ring.now = ap query_for (c.new-block.ensures ∙ c.prints.ensures.prints) in
+    let is : query ≡ query_of c.args.ring.now = c.of-block.ensures in
     record {
       list = all_matches query songs c.loop-j.scratch.matches c.order.new.self.matches c.loop-j.j whole
-          (songs_rise c.args.catalogue.now.store c.args.catalogue.now.index c.count.ensures.shelved.rising)
+          (rising-songs c.args.catalogue.now.store c.args.catalogue.now.index c.count.ensures.shelved.rising)
           c.loop-j.invariant.listed c.order.ensures.same c.order.ensures.ordered
           ∙ ap (λ q. matches q songs) is;
       room = c.order.ensures.room ∙ c.loop-j.invariant.room;
       ticks = omega (
         arith,
         c.loop-j.invariant.ticks,
-        ap (sum_by (nodes_by positions songs)) (take_all c.loop-j.j query.prints whole),
+        ap (sum_by (nodes_by positions query songs)) (take_all c.loop-j.j query.prints whole),
         nodes_are_cost positions query songs,
         ap (λ q. cost positions q songs) is,
       );

@@ -13,5 +13,5 @@ invariant-loop-j g l =
     record {
       listed : HaveSame l.scratch.matches (flat_map (found_by query songs) (take l.j (enumerate_from 0 l.block.prints)));
       room : l.scratch.room ≡ l.fn.scratch.room;
-      ticks : l.steps ≤ l.fn.steps + 257 * sum_by (nodes_by l.catalogue.store.positions songs) (take l.j l.block.prints);
+      ticks : l.steps ≤ l.fn.steps + 257 * sum_by (nodes_by l.catalogue.store.positions query songs) (take l.j l.block.prints);
     }

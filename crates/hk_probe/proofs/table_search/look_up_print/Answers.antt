@@ -17,7 +17,7 @@ loop-subset-init g c =
     let songs : Songs = songs_of c.args.catalogue.now in
     let print : ℕ × Print = numbered c.args.j c.args.block.now.prints in
     let old : List Match = c.args.scratch.now.matches in
-    let all : c.into_iter-subset-iterator.result ≡ subsets print.1.mask = c.into_iter-subset-iterator.ensures.into_iter_gives ∙ c.new-subset-items.ensures in
+    let all : c.into_iter-subset-iterator.result ≡ subsets print.1.mask = c.into_iter-subset-iterator.ensures.into_iter_gives ∙ c.subsets-subset-items.ensures in
     let gives : ℕ → List Match = λ s. found_of query songs c.args.j (bit_xor print.1.word s) in
     record {
       can = tt;
@@ -26,7 +26,7 @@ loop-subset-init g c =
       room = refl;
       ticks = omega (
         arith,
-        nodes_by_subsets c.args.catalogue.now.store.positions songs print.1,
+        nodes_by_subsets c.args.catalogue.now.store.positions query songs print.1,
         ap (sum_by (λ s. nodes_of c.args.catalogue.now.store.positions songs (bit_xor print.1.word s))) all,
       );
     }

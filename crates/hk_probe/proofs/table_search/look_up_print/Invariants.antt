@@ -19,5 +19,5 @@ invariant-loop-subset g l =
           (l.fn.scratch.matches ++ found_by query songs print);
       room : l.scratch.room ≡ l.fn.scratch.room;
       ticks : l.steps + 257 * sum_by (λ s. nodes_of positions songs (bit_xor print.1.word s)) l.subset-iterator
-          ≤ l.fn.steps + 257 * nodes_by positions songs print.1;
+          ≤ l.fn.steps + 257 * nodes_by positions query songs print.1;
     }

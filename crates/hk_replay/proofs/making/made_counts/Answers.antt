@@ -1,7 +1,7 @@
 use Rattle.std.proofs.Common.{ap, ◌∙◌, arith}
 use Rattle.hk_spec_lines.specs.Make.{tally_of}
 use Rattle.hk_spec_runs.proofs.MadeLines.{made_line_counted}
-use Rattle.hk_words.specs.Orders.{rules_meant}
+use Rattle.hk_words.specs.Rules.{rules_meant}
 use Rattle.hk_replay.specs.Counts.{tally_meant}
 use Rattle.hk_replay.proofs.making.made_counts.Goals as goal
 

@@ -1,7 +1,8 @@
 use Rattle.std.proofs.Common.{sym, subst}
 use Rattle.hk_spec_runs.specs.Outcome.{task_of}
 use Rattle.hk_words.specs.declared.order.Order.{Order}
-use Rattle.hk_words.specs.Orders.{rules_meant, order_meant}
+use Rattle.hk_words.specs.Orders.{order_meant}
+use Rattle.hk_words.specs.Rules.{rules_meant}
 use Rattle.hk_replay.specs.Orders.{CarriesOut}
 use Rattle.hk_replay.proofs.MadeLine.{line_carries_out}
 use Rattle.hk_replay.proofs.order.carry_out.Goals as goal

@@ -1,4 +1,4 @@
-use Rattle.hk_words.specs.Orders.{rules_meant}
+use Rattle.hk_words.specs.Rules.{rules_meant}
 use Rattle.hk_run.proofs.Tasks.{nothing_printed}
 use Rattle.hk_replay.proofs.replaying.replay_counted.Goals as goal
 

@@ -1,9 +1,8 @@
 use Rattle.std.proofs.Common.{◌≡◌, ◌++◌, List, refl}
 use Rattle.hk_base.specs.declared.plain.Head.{Head}
 use Rattle.hk_base.specs.declared.plain.Match.{Match}
-use Rattle.hk_spec_lines.specs.Lines.{line, list_text, NEWLINE}
+use Rattle.hk_spec_lines.specs.Lines.{head_text, line, list_text, NEWLINE}
 use Rattle.hk_base.proofs.Writing.{same_text, torn_then, whole_then}
-use Rattle.hk_report.specs.Pieces.{head_text}
 use Rattle.hk_report.proofs.line.write_parts.Goals as goal
 
 parts : (head : Head) (list : List Match) → head_text head ++ list_text list ++ NEWLINE ≡ line head list

@@ -1,5 +1,5 @@
 use Rattle.std.specs.Prelude.{replicate}
-use Rattle.hk_words.specs.Orders.{rules_meant}
+use Rattle.hk_words.specs.Rules.{rules_meant}
 use Rattle.hk_spec_runs.specs.Listening.{unheard}
 use Rattle.hk_run.specs.Holding.{AreHearing}
 use Rattle.hk_run.proofs.opening.open_stations.Given as goal

@@ -1,5 +1,5 @@
 use Rattle.std.proofs.Common.{◌≡◌, ◌∙◌, ap, arith}
-use Rattle.hk_station_wire.specs.Steps.{hello_allows}
+use Rattle.hk_spec_streams.specs.Station.{hello_allows}
 use Rattle.hk_station_wire.proofs.reader.hello_allows.Goals as goal
 
 pub returns-in_default-clause-allows : goal.returns-in_default-clause-allows

@@ -16,6 +16,7 @@ returns-in-Ok g c = λ run tells. record {
   text = text_is c.args.stations.now c.args.operator.now run tells ∙ and_nothing (summary_text c.args.stations.now c.args.operator.now);
   writes = c.in-Ok.ensures.whole.appended;
   all = λ t. (refl, c.in-Ok.ensures.whole.stays);
+  proper = λ f. cc;
   failed = λ f. cc;
 }
 
@@ -30,5 +31,6 @@ returns-in-Err g c = λ run tells.
       text = text_is c.args.stations.now c.args.operator.now run tells ∙ torn.front.2;
       writes = torn.front.4;
       all = λ t. cc;
+      proper = λ f. torn.front.3;
       failed = λ f. torn.cause;
     }

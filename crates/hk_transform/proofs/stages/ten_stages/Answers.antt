@@ -1,8 +1,8 @@
 use Rattle.std.proofs.Common.{◌≡◌, ◌+◌, ◌-◌, ◌*◌, ◌/◌, ◌^◌, ◌≤◌, map, sym, ap, refl, ◌∙◌, arith}
+use Rattle.hk_circle.proofs.Filling.{doubled}
 use Rattle.hk_spec_sound.specs.Circle.{quarter}
 use Rattle.hk_spec_sound.specs.Spectrum.{complexes, transform}
 use Rattle.hk_transform.specs.Parts.{joined_lists, parts_of}
-use Rattle.hk_transform.proofs.Blocks.{doubled}
 use Rattle.hk_transform.proofs.Parts.{map_none, next_stage, last_halves, blocks_of}
 use Rattle.hk_transform.proofs.stages.ten_stages.Goals as goal
 

@@ -1,11 +1,12 @@
 use Rattle.std.proofs.Common.{◌≡◌, ◌++◌, ◌∷◌, [], ap, ◌∙◌, sym, subst, arith}
 use Rattle.std.specs.Prelude.{IfOk}
 use Rattle.std.specs.Result.{result_err}
+use Rattle.hk_spec_streams.proofs.Optional.{on_ok}
 use Rattle.hk_wire.specs.Held.{IsLast}
 use Rattle.hk_operator_wire.specs.Items.{last_command, head_of, item_of}
 use Rattle.hk_operator_wire.specs.Heads.{HasLastFour, head_fault, hello_outcome}
-use Rattle.hk_operator_wire.proofs.Reading.{next_bytes, last_command-next, in_hello, hello_stays, hello_met, hello_item, packet_met, either, last_is, some_next, on_ok, next_last}
-use Rattle.hk_operator_wire.specs.Taken.{IsInOrder}
+use Rattle.hk_operator_wire.proofs.Reading.{next_bytes, last_command-next, in_hello, hello_stays, hello_met, hello_item, packet_met, either, last_is, some_next, next_last}
+use Rattle.hk_operator_wire.specs.Taken.{IsGoodSoFar}
 use Rattle.hk_operator_wire.proofs.Coming.{next_in_order}
 use Rattle.hk_operator_wire.proofs.reader.OpReader.take.Goals as goal
 
@@ -25,7 +26,7 @@ returns-then-place-lt-HELLO_SIZE-clause-stands c = λ text place h.
     on_ok c.take_hello.result (record {
       packet = subst (IsLast c.args.self.now.packet) same h.packet;
       recent = subst (HasLastFour c.args.self.now.recent) same h.recent;
-      order = subst IsInOrder same h.order;
+      order = subst IsGoodSoFar same h.order;
     })
 
 pub returns-in-Some-clause-fault : goal.returns-in-Some-clause-fault
@@ -71,6 +72,6 @@ returns-in-None-clause-stands c = λ text place h.
     record {
       packet = subst (IsLast c.push.new.self) (sym is) last;
       recent = subst (HasLastFour c.push-2.new.self) (sym is) recent;
-      order = subst IsInOrder (sym is) (next_in_order c.args.place (last_command text) c.args.byte h.order
+      order = subst IsGoodSoFar (sym is) (next_in_order c.args.place (last_command text) c.args.byte h.order
           (sym (ap (head_fault c.args.place) (c.head-head.ensures bytes last)) ∙ sym c.head_fault.ensures ∙ c.in-None.is));
     }

@@ -1,9 +1,10 @@
 use Rattle.std.proofs.Common.{◌≡◌, ◌≤◌, ◌++◌, [], ◌∷◌, ℕ, List, length, take, refl, sym, ◌∙◌, ap, subst, arith, length-take, cond}
 use Rattle.std.proofs.lemmas.List.{take-take}
+use Rattle.hk_spec_streams.specs.Station.{heard_form}
 use Rattle.hk_station_wire.specs.Taken.{limit_of}
 use Rattle.hk_spec_settings.specs.Settings.{Rules}
 use Rattle.hk_station_wire.specs.declared.item.Item.TheVariants as item
-use Rattle.hk_station_wire.specs.Says.{heard_form, SaysByte}
+use Rattle.hk_station_wire.specs.Says.{SaysByte}
 use Rattle.hk_station_wire.specs.Sounding.{AreSound, SoundAhead}
 use Rattle.hk_station_wire.proofs.Sounding.{fewer}
 use Rattle.hk_receiver.specs.Received.{HasReceived}

@@ -1,7 +1,6 @@
 use Rattle.std.proofs.Common.{◌≡◌, ◌++◌, [], ◌∷◌, subst, sym, ◌∙◌, arith}
-use Rattle.hk_spec_streams.specs.Station.{sent_prints}
+use Rattle.hk_spec_streams.specs.Station.{sent_prints, heard_form}
 use Rattle.hk_station_wire.specs.declared.item.Item.TheVariants as item
-use Rattle.hk_station_wire.specs.Says.{heard_form}
 use Rattle.hk_receiver.specs.Segment.{Gains}
 use Rattle.hk_receiver.proofs.Holding.{nothing, hears_form, grows, stays, ends_gap, of_bytes}
 use Rattle.hk_receiver.proofs.Telling.{full, some, said, brings, tells, fault_met, no_more}

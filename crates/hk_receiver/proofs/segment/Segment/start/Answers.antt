@@ -5,7 +5,7 @@ use Rattle.hk_receiver.proofs.segment.Segment.start.Goals as goal
 
 pub returns-then-form-ne0-clause-empty : goal.returns-then-form-ne0-clause-empty
 returns-then-form-ne0-clause-empty c = λ s before has.
-    empty s c.args.form _ (still_for s _ _ has.set c.start.ensures.flips refl) (no_print s before c.args.self.now has)
+    empty s c.args.form _ (still_for s has.set c.start.ensures.flips refl) (no_print s before c.args.self.now has)
     (λ sound. record { channels = c.start.ensures.channels; factor = c.start.ensures.factor; taken = c.start.ensures.taken })
 
 pub returns-else-form-ne0-clause-empty : goal.returns-else-form-ne0-clause-empty

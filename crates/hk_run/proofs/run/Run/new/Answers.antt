@@ -1,6 +1,6 @@
 use Rattle.std.proofs.Common.{refl}
 use Rattle.hk_spec_runs.specs.OperatorState.{new_state}
-use Rattle.hk_words.specs.Orders.{rules_meant}
+use Rattle.hk_words.specs.Rules.{rules_meant}
 use Rattle.hk_probe.specs.Single.{shelf_of}
 use Rattle.hk_run.proofs.Opens.{opens, new_on_shelf, is_fixed}
 use Rattle.hk_run.proofs.run.Run.new.Goals as goal

@@ -1,7 +1,7 @@
 use Rattle.std.proofs.Common.{length, sym, ap, ◌∙◌, ◌&&◌, subst}
 use Rattle.hk_base.specs.Writing.{HasWritten, HasFailed}
 use Rattle.hk_base.proofs.Writing.{written-append, failed_within, failed_behind}
-use Rattle.hk_words.specs.Orders.{rules_meant}
+use Rattle.hk_words.specs.Rules.{rules_meant}
 use Rattle.hk_spec_lines.specs.Lines.{operator_line}
 use Rattle.hk_spec_streams.specs.Operator.{commands}
 use Rattle.hk_spec_runs.specs.Replay.{Scene, summary, operator_end_of}

@@ -1,7 +1,7 @@
 use Rattle.std.proofs.Common.{◌≡◌, ◌≤◌, ◌++◌, ℕ, List, length, length-take, take, refl, ◌∙◌, sym, ap, subst, arith}
 use Rattle.std.proofs.lemmas.List.{take-take}
 use Rattle.hk_spec_runs.specs.Replay.{Scene}
-use Rattle.hk_words.specs.Orders.{rules_meant}
+use Rattle.hk_words.specs.Rules.{rules_meant}
 use Rattle.hk_records.specs.Reader.{HasRead, bytes_ahead, input_limit, stations_of}
 use Rattle.hk_records.specs.declared.reader.RecordReader.{RecordReader}
 use Rattle.hk_run.specs.Course.{scene_after, heard_by}

@@ -2,7 +2,7 @@ use Rattle.std.proofs.Common.{◌+◌, ℕ, [], ◌∷◌, ◌++◌, length, ref
 use Rattle.hk_spec_streams.specs.Operator.{commands}
 use Rattle.hk_spec_lines.specs.Lines.{Replied}
 use Rattle.hk_spec_runs.specs.Replay.{Scene}
-use Rattle.hk_words.specs.Orders.{rules_meant}
+use Rattle.hk_words.specs.Rules.{rules_meant}
 use Rattle.hk_run.specs.Course.{scene_after}
 use Rattle.hk_run.proofs.Arriving.{came_head, came_station, came_operator, came_bad}
 use Rattle.hk_run.proofs.Settling.{head_settled, station_settled, quiet_is, quiet_settled, reply_settled}

@@ -1,6 +1,7 @@
 use Rattle.std.proofs.Common.{◌≤◌, ◌<◌, ◌+◌, ◌++◌, [], ◌∷◌, ℕ, List, length, take, drop, get_or, refl, sym, ◌∙◌, ap, arith}
 use Rattle.std.proofs.lemmas.List.{map-append, take_all, take_more}
 use Rattle.std.proofs.lemmas.Result.{on_ok_weaker, on_err_weaker}
+use Rattle.hk_spec_streams.proofs.Optional.{on_ok}
 use Rattle.hk_spec_runs.specs.Listening.{Instant, bytes_in}
 use Rattle.hk_block.specs.Looker.{LookerView}
 use Rattle.hk_station.specs.declared.station.Progress.TheVariants.{Over}
@@ -8,13 +9,13 @@ use Rattle.hk_station.specs.Feeding.{instant}
 use Rattle.hk_station.specs.Outcome.{log_result}
 use Rattle.hk_station.proofs.Feeding.{instants_at, bytes_at, none_heard, HasHeard-append, all_skipped, around_byte}
 use Rattle.hk_station.proofs.Listening.{heard_further}
-use Rattle.hk_station.proofs.Outcomes.{ok_as, end_told, going_told}
+use Rattle.hk_station.proofs.Outcomes.{end_told, going_told}
 use Rattle.hk_station.proofs.station.Station.feed.Goals as goal
 
 pub returns-in-Some-clause-heard : goal.returns-in-Some-clause-heard
 returns-in-Some-clause-heard g c =
     let view : LookerView = g.V.Looker.looker c.args.view.now in
-    ok_as (log_result (Over c.in-Some.kept)) (
+    on_ok (log_result (Over c.in-Some.kept)) (
       instants_at view c.args.piece.now,
       bytes_at view c.args.piece.now,
       all_skipped c.args.piece.now c.args.self.now c.args.view.now c.args.log.now c.args.steps.now c.in-Some.kept c.in-Some.is,

@@ -2,20 +2,21 @@ use Rattle.std.proofs.Common.{◌≡◌, ◌≤◌, ◌+◌, [], ◌∷◌, leng
 use Rattle.hk_base.specs.Writing.{HasWritten, HasFailed}
 use Rattle.hk_base.proofs.Writing.{written-nothing}
 use Rattle.hk_spec_streams.specs.Blocks.{Block}
+use Rattle.hk_spec_streams.proofs.Optional.{on_ok}
 use Rattle.hk_spec_runs.specs.Listening.{Instant}
 use Rattle.hk_block.proofs.Looking.{Looks-nothing}
-use Rattle.hk_receiver.specs.Segment.{block_in}
+use Rattle.hk_block.specs.Ring.{block_in}
 use Rattle.hk_receiver.specs.Received.{segment_of, ring_of}
 use Rattle.hk_station.specs.declared.station.Progress.TheVariants.{Over}
 use Rattle.hk_station.specs.Feeding.{instant}
 use Rattle.hk_station.specs.Outcome.{log_result}
 use Rattle.hk_station.proofs.Hearing.{hears_fault, hears_goes, steps_of_next, steps_of_one, one_line, gives_one, fence_end}
 use Rattle.hk_station.proofs.Feeding.{over_heard}
-use Rattle.hk_station.proofs.Outcomes.{ok_as, ok_both, err_both, none_left}
+use Rattle.hk_station.proofs.Outcomes.{ok_both, err_both, none_left}
 use Rattle.hk_station.proofs.station.Station.hear.Goals as goal
 
 pub returns-in-Some-clause-heard : goal.returns-in-Some-clause-heard
-returns-in-Some-clause-heard g c = ok_as (log_result (Over c.in-Some.end))
+returns-in-Some-clause-heard g c = on_ok (log_result (Over c.in-Some.end))
     (over_heard (instant (g.V.Looker.looker c.args.view.now) c.args.byte) c.args.self.now c.args.view.now c.args.log.now c.args.steps.now c.in-Some.end c.in-Some.is)
 
 pub returns-in-Nothing-clause-heard : goal.returns-in-Nothing-clause-heard
@@ -82,7 +83,7 @@ returns-in-Fence-clause-heard g c =
     let unended : c.args.self.now.end ≡ None = none_left c.args.self.now.end c.in_default.not-Some in
     let i : Instant = instant (g.V.Looker.looker c.meet.new.view) c.args.byte in
     let becomes = c.meet.ensures.meets in
-    ok_as (log_result c.meet.result) (record {
+    on_ok (log_result c.meet.result) (record {
       text = [];
       answers = i.version ∷ [];
       steps = 0;
@@ -100,7 +101,7 @@ pub returns-in-Fault-clause-heard : goal.returns-in-Fault-clause-heard
 returns-in-Fault-clause-heard g c =
     let unended : c.args.self.now.end ≡ None = none_left c.args.self.now.end c.in_default.not-Some in
     let becomes = c.close.ensures.closes in
-    ok_as (log_result c.close.result) (record {
+    on_ok (log_result c.close.result) (record {
       text = [];
       answers = [];
       steps = 0;

@@ -1,13 +1,14 @@
 use Rattle.std.proofs.Common.{◌≡◌, None, take, refl, sym, ◌∙◌, subst}
+use Rattle.hk_spec_streams.proofs.Optional.{none_of}
 use Rattle.hk_station.specs.Hearing.{IsHearing}
-use Rattle.hk_station.proofs.Listening.{hears_further, no_further, not_some}
+use Rattle.hk_station.proofs.Listening.{hears_further, no_further}
 use Rattle.hk_station.proofs.station.Station.listen.Goals as goal
 
 pub returns-then-is_some-clause-hears : goal.returns-then-is_some-clause-hears
 returns-then-is_some-clause-hears c = λ rules l h. subst (IsHearing rules c.args.self.now) (sym (no_further l)) h
 
 unended : (c : goal.After-self-1) → c.args.self.now.end ≡ None
-unended c = not_some c.args.self.now.end (sym c.is_some.ensures ∙ c.if-is_some.false)
+unended c = none_of c.args.self.now.end (sym c.is_some.ensures ∙ c.if-is_some.false)
 
 pub returns-clause-hears : goal.returns-clause-hears
 returns-clause-hears c = λ rules l h.

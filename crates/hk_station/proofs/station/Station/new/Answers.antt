@@ -1,13 +1,20 @@
-use Rattle.std.proofs.Common.{◌<◌, length, refl, sym, ap, arith}
+use Rattle.std.proofs.Common.{◌≡◌, ℕ, ◌<◌, length, refl, sym, ◌∙◌, ap, arith}
+use Rattle.hk_spec_streams.specs.Blocks.{Setting}
 use Rattle.hk_receiver.proofs.Beginning.{no_blocks_yet}
 use Rattle.hk_station.proofs.station.Station.new.Goals as goal
 
-pub returns-in-Ok-clause-unheard : goal.returns-in-Ok-clause-unheard
-returns-in-Ok-clause-unheard c = λ rules set.
-    let some : 0 < rules.setting.block_size = omega (arith, set.block_size) in
+pub returns-clause-unheard : goal.returns-clause-unheard
+returns-clause-unheard c = λ rules is limit_is.
+    let size : rules.setting.block_size ≡ 256 = ap (λ (s : Setting). s.block_size) is in
+    let analysis = ap (λ (s : Setting). s.analysis) is in
+    let some : 0 < rules.setting.block_size = omega (arith, size) in
     record {
-      receives = λ is. c.in-Ok.ensures rules set;
+      receives = λ _. c.new-3.ensures rules (record {
+        analysis = analysis;
+        flips_are = ap (λ (s : Setting). s.flips) is ∙ sym c.in_ok-front.ensures.flips;
+        cuts = record { block_size = size; hop_is = ap (λ (s : Setting). s.hop) is ∙ sym c.in_ok-ring.ensures.hop };
+      }) limit_is;
       end_is = refl;
-      lines = sym (ap length (no_blocks_yet rules.setting set.analysis some));
+      lines = sym (ap length (no_blocks_yet rules.setting analysis some));
       version_is = refl;
     }

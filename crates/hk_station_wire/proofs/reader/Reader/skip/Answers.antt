@@ -14,8 +14,10 @@ returns-clause-stands c = λ limit text bytes h ahead count.
     let none : unfinished_print text ≡ [] = ap (λ carries. cond carries (rest_of 8 (last_segment text)) []) ahead.sound in
     let still_none : unfinished_print (text ++ bytes) ≡ [] = ap (λ carries. cond carries (rest_of 8 (last_segment (text ++ bytes))) []) all.ahead.sound in
     record {
-      channels = λ further. h.channels (omega (arith, long)) ∙ sym (get_or_append_left text bytes 0 4 (omega (arith, long)));
-      factor = λ further. h.factor (omega (arith, long)) ∙ sym (get_or_append_left text bytes 0 5 (omega (arith, long)));
+      told = record {
+        channels = λ further. h.told.channels (omega (arith, long)) ∙ sym (get_or_append_left text bytes 0 4 (omega (arith, long)));
+        factor = λ further. h.told.factor (omega (arith, long)) ∙ sym (get_or_append_left text bytes 0 5 (omega (arith, long)));
+      };
       packet = subst (IsLast c.skip.new.self) (sym all.packet) (c.skip.ensures.next (last_packet text) bytes h.packet ahead.begun count);
       group = h.group ∙ none ∙ sym still_none;
     }

@@ -19,9 +19,9 @@ returns c limit count text h none some few room =
     let told : c.length.result ≡ length_in Two (last_packet text) =
     c.length.ensures (last_packet text) h.packet ∙ ap (λ size. length_in size (last_packet text)) c.args.self.now.short_lengths in
     let size : packet_size w16 (last_packet text) ≡ 3 + length_in Two (last_packet text) = refl in
-    let sound : carries_prints text ≡ false = elim (eqb_tells c.args.self.now.form.channels 0) [
+    let sound : carries_prints text ≡ false = elim (eqb_tells c.args.self.now.told.channels 0) [
       | inl no_sound ↦ absurd (omega (arith, c.if-self-eq0.false, no_sound.1))
-      | inr channels ↦ ap (λ n. n == 0) (sym (h.channels (omega (arith, late)))) ∙ channels.0
+      | inr channels ↦ ap (λ n. n == 0) (sym (h.told.channels (omega (arith, late)))) ∙ channels.0
     ] in
     record {
       no_fault = none;

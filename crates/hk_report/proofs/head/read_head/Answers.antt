@@ -1,6 +1,6 @@
 use Rattle.hk_report.proofs.Stopping.{stopped}
 use Rattle.hk_report.proofs.Heads.{in_station, behind_station, in_block, behind_block, in_segment, behind_segment, in_first, behind_first, in_version, behind_version, in_colon}
-use Rattle.hk_report.proofs.reader.read_head.Goals as goal
+use Rattle.hk_report.proofs.head.read_head.Goals as goal
 
 -- left in the station
 pub returns-in_err-station-clause-misfit : goal.returns-in_err-station-clause-misfit
