@@ -4,8 +4,9 @@
     tools/documents.py           prints what is wrong, a line each, with the status 1 where anything is
     tools/documents.py --wrap    before that, wraps the paragraphs that have a line of over 120 characters
 
-Documents are all *.md of the repository. Beside them it checks that no file in tools/, examples/ and companions/ has over
-400 lines, and that each script there answers --help and leaves nothing behind. It takes some seconds.
+Documents are all *.md of the repository; no row of a table stands in two of them. Beside them it checks that no file in
+tools/, examples/ and companions/ has over 400 lines, and that each script there answers --help and leaves nothing
+behind. It takes some seconds.
 """
 
 import argparse
@@ -27,6 +28,7 @@ SECONDS = 60
 FENCE = re.compile(r"^\s*```")
 QUOTE = re.compile(r"^```antt (\S+)\n(.*?)^```$", re.DOTALL | re.MULTILINE)
 SPAN = re.compile(r"`([^`\n]+)`")
+RULE = re.compile(r"[|: ]*-[-|: ]*")
 LINK = re.compile(r"\[[^]]+\]\(([^)\s]+)\)")
 IN_REPOSITORY = re.compile(r"(?:\./)?((?:crates|tools|docs|examples|companions|\.ci)/[\w./*-]+)")
 NAME = re.compile(r"(?:[A-Za-z]\w*::)*[A-Za-z]\w*")
@@ -162,6 +164,17 @@ def rooms(path, text):
                 yield 1, f"doesn't name the crate {crate}"
 
 
+def repeated(documents):
+    """Rows of tables, heads left out, that stand in two documents."""
+    first = {}
+    for path in documents:
+        lines = path.read_text().splitlines()
+        for number, (line, below) in enumerate(zip(lines, [*lines[1:], ""]), 1):
+            is_row = line.startswith("|") and line.strip("|-: ") and not RULE.fullmatch(below)
+            if is_row and first.setdefault(line, path) != path:
+                yield path, number, f"repeats a row of a table of {first[line].relative_to(ROOT)}"
+
+
 def sizes(files):
     for path in files:
         if path.relative_to(ROOT).parts[0] in WORKROOMS and path.suffix in (".py", ".c", ".rs", ".md", ".txt"):
@@ -237,7 +250,7 @@ def main():
             path.write_text(text)
         for check in (lines, links, paths, names, commands, quotes, rooms):
             found += [(path, number, fault) for number, fault in check(path, text)]
-    found += [*sizes(files), *helps(files)]
+    found += [*repeated(documents), *sizes(files), *helps(files)]
     for path, number, fault in found:
         print(f"{path.relative_to(ROOT)}:{number}: {fault}")
     print(f"{len(documents)} documents, {len(found)} faults")

@@ -1,47 +1,28 @@
 #!/usr/bin/env python3
 """The input that `hkreplay make` replays, written from its description alone.
 
-made_input.py SEED [--stations N] [--flips K] > FILE     writes the input
-made_input.py --digests                                   the numbers of the tests in crates/hk_made
-made_input.py --lines PROGRAM                             the M line for each case of made_lines.txt, by replaying the
-                                                          input with PROGRAM (hkreplay) or, where PROGRAM is `model`,
-                                                          with tools/model/replay_model.py
-made_input.py --compare PROGRAM                           compares these with made_lines.txt
+    tools/made_input.py SEED [--stations N] [--flips K] > FILE
+    tools/made_input.py --digests
+    tools/made_input.py --lines PROGRAM
+    tools/made_input.py --compare PROGRAM
+
+PROGRAM is hkreplay, by its `replay`, or the word `model`, which is tools/model/replay_model.py and takes some minutes.
 """
-import os
+
+import argparse
+import struct
 import subprocess
 import sys
+from pathlib import Path
 
-HERE = os.path.dirname(os.path.abspath(__file__))
-TABLE = os.path.join(HERE, "made_lines.txt")
+HERE = Path(__file__).resolve().parent
+sys.path.append(str(HERE.parent / "examples"))
+import built  # noqa: E402
+from input_parts import GAP, OPERATOR_HELLO, PRINTS, PUBLISH  # noqa: E402
+from input_parts import add, draws, operator_record, packet, station_hello, station_record, withdraw  # noqa: E402
 
-
-def draws(seed):
-    """The generator's values, without end; each is the state after one step."""
-    state = seed
-    while True:
-        state = (1103515245 * state + 12345) % 2**31
-        yield state
-
-
-def number(value, size):
-    return value.to_bytes(size, "big")
-
-
-def for_operator(payload):
-    return b"O" + number(len(payload), 2) + payload
-
-
-def for_station(station, payload):
-    return b"S" + number(station, 1) + number(len(payload), 2) + payload
-
-
-def command(kind, payload=b""):
-    return number(kind, 1) + number(len(payload), 4) + payload
-
-
-def packet(kind, payload=b""):
-    return number(kind, 1) + number(len(payload), 2) + payload
+TABLE = HERE / "made_lines.txt"
+MODEL = HERE / "model/replay_model.py"
 
 
 def songs(high):
@@ -49,35 +30,32 @@ def songs(high):
     return [[next(high) * 65536 + next(high) for _ in range(1000 + 100 * i)] for i in range(8)]
 
 
-def add(i, song):
-    return command(1, number(100 + i, 4) + b"".join(number(word, 4) for word in song))
-
-
 def played(word, bit, flips):
     """A print of the word: one wrong bit, and `flips` weak bits from it on, round the word's end."""
     if flips == 0:
-        return number(word, 4) + number(0, 4)
+        return struct.pack(">II", word, 0)
     weak = [(bit + i) % 32 for i in range(flips)]
-    return number(word ^ (1 << bit), 4) + number(sum(1 << b for b in weak), 4)
+    return struct.pack(">II", word ^ (1 << bit), sum(1 << b for b in weak))
 
 
 def made_input(seed, stations=4, flips=4):
-    high = (value >> 15 for value in draws(seed))
+    high = draws(seed)
     song = songs(high)
     edits = [
-        [add(i, song[i]) for i in range(0, 4)],
-        [add(i, song[i]) for i in range(4, 8)],
-        [command(5, number(103, 4))],
-        [add(3, song[3])],
+        [add(100 + i, song[i]) for i in range(0, 4)],
+        [add(100 + i, song[i]) for i in range(4, 8)],
+        [withdraw(103)],
+        [add(103, song[3])],
     ]
-    out = [for_operator(b"HKO1")]
-    out += [for_station(s, b"HKS1" + bytes([0, 1])) for s in range(stations)]
+    out = [operator_record(OPERATOR_HELLO)]
+    out += [station_record(s, station_hello(PRINTS)) for s in range(stations)]
     for r in range(4):
-        out += [for_operator(c) for c in edits[r] + [command(6)]]
+        out += [operator_record(c) for c in edits[r] + [PUBLISH]]
         for s in range(stations):
-            words = song[(s + r) % 8][40 * r:40 * r + 600]
-            out.append(for_station(s, packet(1, b"".join(played(w, next(high) % 32, flips) for w in words))))
-        out += [for_station(s, packet(3)) for s in range(stations)]
+            words = song[(s + r) % 8][40 * r : 40 * r + 600]
+            prints = b"".join(played(w, next(high) % 32, flips) for w in words)
+            out.append(station_record(s, packet(1, prints)))
+        out += [station_record(s, GAP) for s in range(stations)]
     return b"".join(out)
 
 
@@ -99,8 +77,8 @@ def line_of(report):
 
 
 def replayed(program, data, options):
-    words = [sys.executable, os.path.join(HERE, "model/replay_model.py")] if program == "model" else [program]
-    run = subprocess.run(words + ["replay"] + options, input=data, stdout=subprocess.PIPE, check=False)
+    words = [sys.executable, MODEL] if program == "model" else [program]
+    run = subprocess.run([*words, "replay", *options], input=data, stdout=subprocess.PIPE, check=False)
     if run.returncode != 0:
         sys.exit(f"{program} replay {' '.join(options)}: status {run.returncode}")
     return run.stdout.decode("ascii")
@@ -108,11 +86,10 @@ def replayed(program, data, options):
 
 def cases():
     """Each case of the table: the words after `make`, and the line."""
-    with open(TABLE, encoding="ascii") as table:
-        for row in table:
-            if not row.startswith("#") and row.strip():
-                words, line = row.rstrip("\n").split(": ")
-                yield words.split(" "), line
+    for row in TABLE.read_text().splitlines():
+        if not row.startswith("#") and row.strip():
+            words, line = row.split(": ")
+            yield words.split(" "), line
 
 
 def lines(program):
@@ -124,35 +101,44 @@ def lines(program):
         yield words, wanted, line_of(replayed(program, data, [w for pair in options.items() for w in pair]))
 
 
-def option(words, name, default):
-    return int(words[words.index(name) + 1]) if name in words else default
+def options_of(words):
+    parser = argparse.ArgumentParser(description=__doc__, formatter_class=argparse.RawDescriptionHelpFormatter)
+    kind = parser.add_mutually_exclusive_group(required=True)
+    kind.add_argument("seed", nargs="?", type=int, help="write the input to standard output")
+    kind.add_argument("--digests", action="store_true", help="print the numbers of the tests in crates/hk_made")
+    kind.add_argument("--lines", metavar="PROGRAM", help="print the M line for each case of made_lines.txt")
+    kind.add_argument("--compare", metavar="PROGRAM", help="compare these with made_lines.txt")
+    parser.add_argument("--stations", type=int, default=4, metavar="N", help="stations of the input (4)")
+    parser.add_argument("--flips", type=int, default=4, metavar="K", help="weak bits of a print (4)")
+    return parser.parse_args(words)
 
 
-def main(words):
-    if words[:1] in (["--help"], ["-h"]):
-        print(__doc__)
-    elif words[:1] == ["--digests"]:
-        for stations in (1, 4):
-            for flips in (0, 1, 4):
-                data = made_input(1, stations, flips)
-                print(stations, flips, len(data), data[:4].hex(), data[-4:].hex(), digest(data))
-    elif words[:1] == ["--lines"] and len(words) == 2:
-        for case, _, line in lines(words[1]):
+def digests():
+    for stations in (1, 4):
+        for flips in (0, 1, 4):
+            data = made_input(1, stations, flips)
+            print(stations, flips, len(data), data[:4].hex(), data[-4:].hex(), digest(data))
+
+
+def main():
+    options = options_of(sys.argv[1:])
+    program = options.lines or options.compare
+    if program and program != "model":
+        program = built.need(Path(program))
+    if options.digests:
+        digests()
+    elif options.lines:
+        for case, _, line in lines(program):
             print(f"{' '.join(case)}: {line}", flush=True)
-    elif words[:1] == ["--compare"] and len(words) == 2:
-        wrong = 0
-        for case, wanted, line in lines(words[1]):
-            if line != wanted:
-                wrong += 1
-                print(f"{' '.join(case)}: {line}, and the table has {wanted}")
-        print(f"{wrong} differ")
-        sys.exit(1 if wrong else 0)
-    elif words and words[0].isdigit():
-        data = made_input(int(words[0]), option(words, "--stations", 4), option(words, "--flips", 4))
-        sys.stdout.buffer.write(data)
+    elif options.compare:
+        found = [(case, wanted, line) for case, wanted, line in lines(program) if line != wanted]
+        for case, wanted, line in found:
+            print(f"{' '.join(case)}: {line}, and the table has {wanted}")
+        print(f"{len(found)} differ")
+        sys.exit(1 if found else 0)
     else:
-        sys.exit(__doc__)
+        sys.stdout.buffer.write(made_input(options.seed, options.stations, options.flips))
 
 
 if __name__ == "__main__":
-    main(sys.argv[1:])
+    main()

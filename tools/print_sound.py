@@ -68,17 +68,17 @@ def text(found):
     return "".join(f"{n} {word:08x} {mask:08x}\n" for n, (word, mask) in enumerate(found))
 
 
+SIZES = {"seed": None, "bytes": None}
+FORM = {"channels": (1, 2), "factor": (1, 2, 4, 8), "flips": range(11)}
+
+
 def main():
     parser = argparse.ArgumentParser(description=__doc__, formatter_class=argparse.RawDescriptionHelpFormatter)
     commands = parser.add_subparsers(dest="command", required=True, metavar="make|print|digest")
-    for name, numbers in (
-        ("make", "seed bytes"),
-        ("print", "channels factor flips"),
-        ("digest", "channels factor flips"),
-    ):
+    for name, numbers in (("make", SIZES), ("print", FORM), ("digest", FORM)):
         command = commands.add_parser(name)
-        for number in numbers.split():
-            command.add_argument(number, type=int)
+        for number, choices in numbers.items():
+            command.add_argument(number, type=int, choices=choices)
     options = parser.parse_args()
     if options.command == "make":
         sys.stdout.buffer.write(made(options.seed, options.bytes))

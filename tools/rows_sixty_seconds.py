@@ -12,9 +12,13 @@ line with the crates, and a test of the whole replay holds what it prints. The p
 """
 
 import argparse
+import sys
 from pathlib import Path
 
 from sound_vectors import digest
+
+sys.path.append(str(Path(__file__).resolve().parents[1] / "examples"))
+import built  # noqa: E402
 
 BLOCK = 256
 HOP = 64
@@ -56,6 +60,7 @@ def main():
     parser.add_argument("prints", type=Path, help="the file of prints")
     parser.add_argument("--text", action="store_true", help="print the report itself")
     options = parser.parse_args()
+    built.need_file(options.prints)
     lines = options.prints.read_text()
     prints = [(int(word, 16), int(mask, 16)) for _, word, mask in map(str.split, lines.splitlines())]
     text = report(prints)

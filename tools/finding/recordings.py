@@ -1,11 +1,13 @@
 """Real recordings as sound, decoded by ffmpeg, and parts of them: those of Debian's package wesnoth-1.16-music."""
 
-import shutil
 import subprocess
 import sys
 from array import array
 from math import sqrt
 from pathlib import Path
+
+sys.path.append(str(Path(__file__).resolve().parents[2] / "examples"))
+import built  # noqa: E402
 
 MUSIC = Path("/usr/share/games/wesnoth/1.16/data/core/music")
 PACKAGE = "wesnoth-1.16-music"
@@ -19,8 +21,7 @@ RAW = ["-f", "s16le", "-ar", str(RATE), "-ac", str(CHANNELS)]
 
 def need(folder):
     """Ends with one line where what all this needs isn't there."""
-    if shutil.which("ffmpeg") is None:
-        sys.exit("there is no ffmpeg: Debian's package of that name has it")
+    built.need_commands("ffmpeg")
     if not any(folder.glob("*.ogg")):
         sys.exit(f"there is no recording *.ogg in {folder}: Debian's package {PACKAGE} brings those of {MUSIC}")
 

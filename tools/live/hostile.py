@@ -9,6 +9,7 @@ from concurrent.futures import ThreadPoolExecutor
 import broadcast
 import judging
 import running
+from mutations import mutated
 
 parts = broadcast.parts
 PRINTS = broadcast.Form(0, 1)
@@ -46,22 +47,9 @@ def operator(draw):
     return b"".join(out)
 
 
-def mutated(draw, stream):
-    """The stream with some bytes flipped, cut out, doubled or put in; one in three stays as it is."""
-    stream = bytearray(stream)
-    for _ in range(draw.choice((0, 1, 1, 2, 5, 20)) if draw.random() < 0.67 else 0):
-        at = draw.randrange(len(stream) + 1) if draw.random() < 0.7 else draw.randrange(min(20, len(stream)) + 1)
-        size = draw.choice((1, 1, 2, 3, 8, 100))
-        kind = draw.randrange(4)
-        if kind == 0 and at < len(stream):
-            stream[at] ^= 1 << draw.randrange(8)
-        elif kind == 1:
-            del stream[at : at + size]
-        elif kind == 2:
-            stream[at:at] = stream[at : at + size]
-        else:
-            stream[at:at] = draw.randbytes(size)
-    return bytes(stream)
+def hurt(draw, stream):
+    """The stream with some changes; one in three stays as it is."""
+    return mutated(draw, stream, draw.choice((0, 1, 1, 2, 5, 20)) if draw.random() < 0.67 else 0)
 
 
 class Client(threading.Thread):
@@ -98,8 +86,8 @@ def one(given, number):
     stations, workers, hop = draw.randrange(1, 6), draw.randrange(1, 4), draw.choice((1, 8, 64, 256))
     chosen = judging.settings({"--stations": stations, "--hop": hop, "--songs": 4, "--positions": 2000})
     words = [word for name, value in chosen.items() for word in (name, str(value))]
-    streams = [mutated(draw, station(draw)) for _ in range(stations)]
-    calls = mutated(draw, operator(draw))
+    streams = [hurt(draw, station(draw)) for _ in range(stations)]
+    calls = hurt(draw, operator(draw))
     ways = [draw.choice(WAYS) for _ in range(stations)]
     with tempfile.TemporaryDirectory(prefix="hkmon-") as folder:
         monitor = running.Monitor(given, folder, [*words, "--workers", str(workers)])

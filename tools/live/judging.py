@@ -15,7 +15,7 @@ sys.path[:0] = [str(TOOLS / "model"), str(TOOLS), str(TOOLS.parent / "examples")
 import replay_model  # noqa: E402, F401
 import sound_model  # noqa: E402
 import streams_model  # noqa: E402
-from desk_model import Desk, matches  # noqa: E402
+from desk_model import Desk, bits_of, matches_in  # noqa: E402
 from replay_model import OPTIONS  # noqa: E402
 from streams_model import operator_commands, station_events  # noqa: E402
 
@@ -40,13 +40,14 @@ def settings(given):
 
 
 class Catalogue:
-    """What an operator's bytes lead to: the replies, the songs of each version, and the end."""
+    """What an operator's bytes lead to: the replies, the songs of each version, and the end. The commands of the
+    numbers `no_memory` are refused for want of memory."""
 
-    def __init__(self, chosen, stream):
+    def __init__(self, chosen, stream, no_memory=()):
         self.desk, self.versions, self.replies = Desk(chosen), [{}], []
         commands, self.end = operator_commands(stream)
         for number, (_, kind, payload) in enumerate(commands, 1):
-            answer = self.desk.answer(kind, payload)
+            answer = self.desk.answer(kind, payload, number in no_memory)
             self.replies.append(f"O {number} {answer}")
             if answer.startswith("published"):
                 self.versions.append(self.desk.published)
@@ -56,12 +57,16 @@ class Catalogue:
         return len(self.versions) - 1
 
     def listed(self, prints, version):
-        """The list of a block's line in a version."""
-        key = hash(tuple(prints)), version
-        if key not in self.found:
-            items = [f"{number}@{q}~{errors}" for number, q, errors in matches(prints, self.versions[version])]
-            self.found[key] = " ".join(items) or "none"
-        return self.found[key]
+        """The list of a block's line in a version. What a block has in a recording is computed once."""
+        block, songs, bits, items = hash(tuple(prints)), self.versions[version], None, []
+        for number in sorted(songs):
+            key = block, number, songs[number]
+            if key not in self.found:
+                bits = bits or bits_of(prints)
+                found = matches_in(bits, *key[1:])
+                self.found[key] = [f"{number}@{q}~{errors}" for _, q, errors in found]
+            items += self.found[key]
+        return " ".join(items) or "none"
 
 
 class Station:

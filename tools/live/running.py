@@ -12,11 +12,15 @@ import threading
 import time
 from pathlib import Path
 
-PROGRAM = Path(__file__).resolve().parents[2] / "crates/hkmon/out/hkmon"
+sys.path.append(str(Path(__file__).resolve().parents[2] / "examples"))
+import built  # noqa: E402
+
 TICKS = os.sysconf("SC_CLK_TCK")
 
 
 PORTS = itertools.count(10000 + os.getpid() % 40 * 500)  # below those that the system gives to connections
+# A process that is being started holds what was open, for a moment: a port is tried and hkmon is started one at a time.
+STARTING = threading.Lock()
 
 
 def free_port():
@@ -30,7 +34,7 @@ def free_port():
 
 
 def add_options(parser):
-    parser.add_argument("--program", type=Path, default=PROGRAM, help="hkmon (that of crates/hkmon/out)")
+    parser.add_argument("--program", type=Path, default=built.MONITOR, help="hkmon (that of crates/hkmon/out)")
     parser.add_argument(
         "--program-under",
         metavar="WORDS",
@@ -39,8 +43,8 @@ def add_options(parser):
 
 
 def need(given):
-    if given.program_under is None and not given.program.is_file():
-        sys.exit(f"there is no program at {given.program}; at the repository's top `rt ci` builds it")
+    if given.program_under is None:
+        built.need(given.program, "hkmon")
 
 
 def tree(root):
@@ -78,8 +82,16 @@ def used(numbers):
 class Monitor:
     """A running hkmon on two free ports of loopback, with its logs in a folder."""
 
-    def __init__(self, given, folder, words):
-        self.folder, self.ports = folder, (free_port(), free_port())
+    def __init__(self, given, folder, words, around=None):
+        self.folder = folder
+        with STARTING:
+            self.start(given, words, around)
+        atexit.register(self.process.kill)  # where this script is interrupted
+        self.samples, self.over = [], threading.Event()
+        self.sampler = threading.Thread(target=self.sample, daemon=True)
+
+    def start(self, given, words, around):
+        folder, self.ports = self.folder, (free_port(), free_port())
         logs = [] if given.program_under is None else ["--logs", os.path.join(folder, "station")]
         words = [*words, *logs, "--station-port", str(self.ports[0]), "--operator-port", str(self.ports[1])]
         under = [str(given.program.resolve())] if given.program_under is None else shlex.split(given.program_under)
@@ -88,11 +100,8 @@ class Monitor:
         self.out = open(os.path.join(folder, "summary"), "w+b")
         self.errors = open(os.path.join(folder, "errors"), "w+b")
         self.process = subprocess.Popen(
-            [*under, *words], cwd=where, stdin=subprocess.DEVNULL, stdout=self.out, stderr=self.errors
+            [*under, *words], cwd=where, stdin=subprocess.DEVNULL, stdout=self.out, stderr=self.errors, env=around
         )
-        atexit.register(self.process.kill)  # where this script is interrupted
-        self.samples, self.over = [], threading.Event()
-        self.sampler = threading.Thread(target=self.sample, daemon=True)
 
     def sample(self):
         began, numbers = time.monotonic(), tree(self.process.pid)
@@ -105,8 +114,10 @@ class Monitor:
         while True:
             try:
                 return socket.create_connection(("127.0.0.1", port))
-            except ConnectionRefusedError:
-                if self.process.poll() is not None or time.monotonic() > end:
+            except ConnectionRefusedError as error:
+                if self.process.poll() is not None:
+                    raise OSError(f"it ended: status {self.process.returncode}, {self.complaint()!r}") from error
+                if time.monotonic() > end:
                     raise
                 time.sleep(0.01)
 
@@ -127,11 +138,15 @@ class Monitor:
         self.over.set()
         self.out.seek(0)
         text = self.out.read().decode("latin-1")
-        self.errors.seek(0)
-        self.told = self.errors.read().decode("utf-8", "replace")
         self.out.close()
         self.errors.close()
+        self.told = self.complaint()
         return status, [line for line in text.splitlines() if line.startswith("T ")]
+
+    def complaint(self):
+        """What is on standard error so far."""
+        with open(self.errors.name, encoding="utf-8", errors="replace") as file:
+            return file.read()
 
     def log(self, number):
         path = os.path.join(self.folder, f"station-{number}.log")

@@ -104,15 +104,26 @@ def windows(words):
     return WINDOWS[words]
 
 
-def matches(prints, songs):
-    """Each start of each song, by id and place, that has a hit at some print and few enough wrong bits."""
+def bits_of(prints):
+    """The words of a block as one number, and its strong bits as another."""
     words = int.from_bytes(struct.pack("<256I", *(word for word, _ in prints)), "little")
     strong = int.from_bytes(struct.pack("<256I", *(0xFFFFFFFF ^ mask for _, mask in prints)), "little")
+    return words, strong
+
+
+def matches_in(bits, number, song):
+    """Each start of a song, by id and place, that has a hit at some print and few enough wrong bits."""
+    words, strong = bits
     out = []
-    for number in sorted(songs):
-        for q, window in enumerate(windows(songs[number])):
-            unlike = window ^ words
-            errors = unlike.bit_count()
-            if errors <= LIMIT and 0 in struct.unpack("<256I", (unlike & strong).to_bytes(4 * BLOCK, "little")):
-                out.append((number, q, errors))
+    for q, window in enumerate(windows(song)):
+        unlike = window ^ words
+        errors = unlike.bit_count()
+        if errors <= LIMIT and 0 in struct.unpack("<256I", (unlike & strong).to_bytes(4 * BLOCK, "little")):
+            out.append((number, q, errors))
     return out
+
+
+def matches(prints, songs):
+    """The matches of a block in all these songs."""
+    bits = bits_of(prints)
+    return [found for number in sorted(songs) for found in matches_in(bits, number, songs[number])]

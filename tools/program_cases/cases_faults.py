@@ -126,4 +126,33 @@ INPUTS = [
     run_ends("a bad record at the limit", b"O\0\0X", "R bad-record 3", words=["--bytes", "4"]),
 ]
 
-CASES = STATIONS + OPERATORS + OTHERS + INPUTS
+SMALL = ["replay", "--songs", "2", "--positions", "256"]
+
+
+def with_byte_255(place, stream):
+    return stream[:place] + b"\xff" + stream[place + 1 :]
+
+
+def station_byte(place, end, line=""):
+    """The first example with a byte of the station's stream set to 255."""
+    summary = f"T S 0 {line.count('S')} {line.count('S')} {end}\nT O 2 1 ended\n"
+    given = FIRST_OPERATOR + s(0, with_byte_255(place, FIRST_STREAM))
+    return Case(f"the first example with station byte {place} at 255", SMALL, 3, FIRST_REPLIES + line + summary, input=given)
+
+
+def operator_byte(place, end):
+    """The first example with a byte of the operator's stream set to 255."""
+    given = o(with_byte_255(place, OPERATOR + FIRST_COMMANDS)) + s(0, FIRST_STREAM)
+    text = f"S 0 B 0 G 0 W 0 V 0: none\nT S 0 1 0 ended\nT O 0 0 {end}\n"
+    return Case(f"the first example with operator byte {place} at 255", SMALL, 3, text, input=given)
+
+
+BYTES = [
+    *(station_byte(place, f"bad-hello {place}") for place in range(6)),
+    station_byte(6, "bad-kind 6"),
+    *(station_byte(place, "cut 2057", "S 0 B 0 G 0 W 0 V 1: 7@0~0\n") for place in (7, 8)),
+    operator_byte(4, "bad-kind 4"),
+    operator_byte(5, "cut 1042"),
+]
+
+CASES = STATIONS + OPERATORS + OTHERS + INPUTS + BYTES

@@ -242,4 +242,20 @@ FENCES = [
     ),
 ]
 
-CASES = MATCHES + BLOCKS + CUTS + VERSIONS + REPLIES + FENCES
+# each of a recording's starts but the last 255 is found by each of two blocks, and listed once
+STARTS = " ".join(f"3@{start}~0" for start in range(1745))
+
+SILENCE = [
+    Case(
+        "silence whose weak bits hit every bucket",
+        ["replay", "--hop", "256"],
+        0,
+        FIRST_REPLIES
+        + f"S 0 B 0 G 0 W 0 V 1: {STARTS}\nS 0 B 1 G 0 W 256 V 1: {STARTS}\n"
+        + "T S 0 2 1 ended\nT O 2 1 ended\n",
+        input=o(OPERATOR, add(3, [0] * 2000), PUBLISH)
+        + s(0, PRINTS, prints([0] * 512, {place: 0x3FF for place in range(512)})),
+    ),
+]
+
+CASES = MATCHES + BLOCKS + CUTS + VERSIONS + REPLIES + FENCES + SILENCE

@@ -29,10 +29,8 @@ import cases_replay
 import cases_sound
 import cases_words
 from case import Broken, Input, Output, Pipe, Room
+from streams import built
 
-ROOT = Path(__file__).resolve().parents[2]
-PROGRAM = ROOT / "crates/hkreplay/out/hkreplay"
-MONITOR = ROOT / "crates/hkmon/out/hkmon"
 TABLES = (
     cases_examples,
     cases_words,
@@ -159,8 +157,8 @@ def difference(found, wanted):
 
 def options_of(words):
     parser = argparse.ArgumentParser(description=__doc__, formatter_class=argparse.RawDescriptionHelpFormatter)
-    parser.add_argument("--program", type=Path, default=PROGRAM, help="hkreplay (that of crates/hkreplay/out)")
-    parser.add_argument("--monitor", type=Path, default=MONITOR, help="hkmon (that of crates/hkmon/out)")
+    built.add_option(parser)
+    parser.add_argument("--monitor", type=Path, default=built.MONITOR, help="hkmon (that of crates/hkmon/out)")
     parser.add_argument("--only", default="", metavar="WORD", help="the cases alone whose name has WORD in it")
     parser.add_argument("--list", action="store_true", help="print the names of the cases, and run none")
     return parser.parse_args(words)
@@ -172,15 +170,12 @@ def main():
     if options.list:
         print("\n".join(case.name for case in chosen))
         return 0
-    programs = {"hkreplay": options.program, "hkmon": options.monitor}
-    for name in {case.program for case in chosen}:
-        if not programs[name].is_file():
-            print(f"program_cases: {programs[name]} isn't built; at the repository's top rt ci builds it")
-            return 1
+    given = {"hkreplay": options.program, "hkmon": options.monitor}
+    programs = {name: built.need(given[name], name) for name in sorted({case.program for case in chosen})}
     failed = 0
     for case in chosen:
         with tempfile.TemporaryDirectory(prefix="program_cases.") as folder:
-            faults = Run(programs[case.program].resolve(), case, folder).faults()
+            faults = Run(programs[case.program], case, folder).faults()
         if faults:
             failed += 1
             print(f"FAILED: {case.name}: {'; '.join(faults)}")

@@ -1,53 +1,22 @@
-"""The bytes of inputs, by the names that docs/FORMATS.md gives their parts."""
+"""The bytes of inputs, by the names that docs/FORMATS.md gives their parts: those of examples/, and what cases need more."""
 
 import struct
+import sys
+from pathlib import Path
 
-# ---- the operator's stream ----
-
-OPERATOR = b"HKO1"
-
-
-def command(kind, payload=b""):
-    return struct.pack(">BI", kind, len(payload)) + payload
-
-
-def add(song, words):
-    words = list(words)
-    return command(1, struct.pack(f">I{len(words)}I", song, *words))
-
-
-def open_song(song, channels, factor):
-    return command(2, struct.pack(">IBB", song, channels, factor))
-
-
-def audio(sound):
-    return command(3, sound)
-
-
-CLOSE = command(4)
-
-
-def withdraw(song):
-    return command(5, struct.pack(">I", song))
-
-
-PUBLISH = command(6)
-
-# ---- a station's stream ----
-
-
-def station(channels, factor):
-    return b"HKS1" + bytes([channels, factor])
-
+sys.path.append(str(Path(__file__).resolve().parents[2] / "examples"))
+import built  # noqa: E402, F401
+from input_parts import CLOSE, GAP, PUBLISH  # noqa: E402, F401
+from input_parts import add, audio, command, fence, open_song, packet, withdraw  # noqa: E402, F401
+from input_parts import OPERATOR_HELLO as OPERATOR  # noqa: E402, F401
+from input_parts import operator_record, station_record  # noqa: E402
+from input_parts import station_hello as station  # noqa: E402, F401
 
 PRINTS = station(0, 1)
 
 
-def packet(kind, payload=b""):
-    return struct.pack(">BH", kind, len(payload)) + payload
-
-
 def data(payload):
+    """One data packet."""
     return packet(1, payload)
 
 
@@ -57,23 +26,14 @@ def prints(words, masks=None):
     return data(b"".join(struct.pack(">II", word, masks.get(j, 0)) for j, word in enumerate(words)))
 
 
-def fence(version):
-    return packet(2, struct.pack(">I", version))
-
-
-GAP = packet(3)
-
-# ---- the input of a replay ----
-
-
 def o(*pieces):
     """A record for the operator."""
-    return b"O" + struct.pack(">H", len(b"".join(pieces))) + b"".join(pieces)
+    return operator_record(b"".join(pieces))
 
 
 def s(number, *pieces):
     """A record for a station."""
-    return b"S" + struct.pack(">BH", number, len(b"".join(pieces))) + b"".join(pieces)
+    return station_record(number, b"".join(pieces))
 
 
 def byte_by_byte(letter, stream):

@@ -3,6 +3,7 @@
 import random
 
 from drawn_commands import commands_of, hurt_operator
+from drawn_mutations import changed_input, small_case
 from drawn_records import hurt_input, mixed
 from drawn_sound import a_sound, in_audio, sound_form
 from drawn_stations import in_packets, print_station
@@ -305,7 +306,16 @@ def tiny_case(r):
     return finish(r, values, mixed(r, packets, operator), stations, 0.25)
 
 
-KINDS = {
+def mutated_case(r):
+    """An input with some bytes or records changed: most often a small one, and now and then one of another kind."""
+    if r.random() < 0.75:
+        values, data = small_case(r)
+        return option_words(r, values), data
+    words, data = r.choices((tiny_case, prints_case, operator_case, sound_case), (100, 100, 50, 2))[0](r)
+    return words, changed_input(r, data)
+
+
+MIXED = {
     "tiny": tiny_case,
     "stations": lambda r: prints_case(r, operator=False),
     "prints": prints_case,
@@ -313,11 +323,12 @@ KINDS = {
     "sound": sound_case,
     "words": words_case,
 }
+KINDS = {**MIXED, "mutated": mutated_case}
 
 
 def case(kind, seed):
     r = random.Random(f"{kind} {seed}")
     chosen = kind
     if kind == "mixed":
-        chosen = r.choices(list(KINDS), (10, 5, 55, 20, 5, 5))[0]
+        chosen = r.choices(list(MIXED), (10, 5, 55, 20, 5, 5))[0]
     return KINDS[chosen](r)

@@ -2,6 +2,7 @@
 """Runs hkreplay on random replays and compares its status and text with the model in tools/model.
 
     tools/replays/random_replays.py compare [--program PATH] [--first SEED] [--cases N] [--kind KIND] [--keep FOLDER]
+                                    [--jobs N]
     tools/replays/random_replays.py make SEED FOLDER [--kind KIND]      one case as files
     tools/replays/random_replays.py export FOLDER [--first SEED] [--cases N] [--kind KIND]
     tools/replays/random_replays.py judge FOLDER LOG
@@ -21,17 +22,20 @@ A kind and a seed give one case, always the same. The kinds:
     sound      songs and stations as sound, cut anywhere
     words      options in and out of their form
     tiny       a few bytes of each stream, often out of order
+    mutated    small inputs with bytes flipped, cut out, doubled or put in, or records doubled, moved or left out
 
 Most streams are in order. Some are then cut, or have a byte changed, an unknown kind, a wrong length or form, too many
 weak bits; some inputs have bad records or are longer than the limit. The records cut and mix the streams at random. At
 the end the counts of statuses, ends, refusals and lists show what was met. Sound costs much time at first; --cache FILE
-keeps what was computed of it.
+keeps what was computed of it, with one process.
 """
 
 import argparse
 import collections
+import functools
 import subprocess
 import sys
+from concurrent.futures import ProcessPoolExecutor
 from pathlib import Path
 
 ROOT = Path(__file__).resolve().parents[2]
@@ -44,12 +48,14 @@ from running import keep, note, report, run  # noqa: E402
 from shrinking import shrink  # noqa: E402
 
 MOST = 2**20  # bytes of text that `rt try` takes
+PART = 50  # cases that a process compares before it tells
 
 
-def compare(options):
+def compared(options, seeds):
+    """What these cases have: counts of what was met, the bytes of input, and how many differ."""
     counts, unlike, sizes = collections.Counter(), 0, 0
-    program, kind = built.need(options.program), options.kind
-    for n, seed in enumerate(seeds(options), 1):
+    program, kind = options.program.resolve(), options.kind
+    for seed in seeds:
         words, data = case(kind, seed)
         expected = outcome(words, data)
         try:
@@ -62,10 +68,22 @@ def compare(options):
             unlike += 1
             path = keep(options.keep, f"{kind}-{seed}", words, data, expected, found)
             print(f"case {kind} {seed} differs: {path}.input", flush=True)
-        if n % 100 == 0:
-            print(f"{n} cases, {unlike} differ", flush=True)
-            save_frames()
-    print(f"{options.cases} cases of {kind} from {options.first}, {sizes} bytes of input, {unlike} differ")
+    return counts, sizes, unlike
+
+
+def compare(options):
+    built.need(options.program)
+    counts, sizes, unlike, done, told = collections.Counter(), 0, 0, 0, 0
+    parts = [seeds(options)[first : first + PART] for first in range(0, options.cases, PART)]
+    with ProcessPoolExecutor(options.jobs) as pool:
+        work = map if options.jobs == 1 else pool.map  # one process keeps what it computed of sound
+        for part, found in zip(parts, work(functools.partial(compared, options), parts)):
+            counts, sizes, unlike, done = counts + found[0], sizes + found[1], unlike + found[2], done + len(part)
+            if done - told >= options.cases / 20:
+                told = done
+                print(f"{done} cases, {unlike} differ", flush=True)
+                save_frames()
+    print(f"{options.cases} cases of {options.kind} from {options.first}, {sizes} bytes of input, {unlike} differ")
     report(counts)
     return 1 if unlike else 0
 
@@ -109,6 +127,8 @@ def export(options):
 
 
 def judge(options):
+    for path in (statuses_of(options.folder), options.log):
+        built.need_file(path)
     expected = dict(line.split() for line in statuses_of(options.folder).read_text().splitlines())
     told = [line for line in options.log.read_text(errors="replace").splitlines() if line.startswith("case=")]
     found = {line.split()[0][5:]: dict(part.split("=", 1) for part in line.split()[1:]) for line in told}
@@ -140,13 +160,16 @@ def options_of():
         parser.add_argument("--first", type=int, default=1, metavar="SEED", help="the first seed (1)")
         parser.add_argument("--cases", type=int, default=100, metavar="N", help="how many cases (100)")
 
+    def jobs(parser):
+        parser.add_argument("--jobs", type=int, default=1, metavar="N", help="how many processes (1)")
+
     def kept(parser):
         parser.add_argument("--keep", type=Path, default=Path("."), metavar="FOLDER", help="for cases that differ (.)")
 
     def path(name):
         return lambda parser: parser.add_argument(name, type=Path)
 
-    command("compare", compare, built.add_option, many, kind, kept)
+    command("compare", compare, built.add_option, many, kind, kept, jobs)
     command("make", make, lambda parser: parser.add_argument("seed", type=int), path("folder"), kind)
     command("export", export, path("folder"), many, kind)
     command("judge", judge, path("folder"), path("log"))

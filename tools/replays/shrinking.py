@@ -1,23 +1,9 @@
 """A smaller input of a kept case on which program and model still differ."""
 
 import built
+from record_lists import head_size, record_list
 from replay_model import outcome
 from running import keep, run
-
-
-def head_size(record):
-    return 4 if record[:1] == b"S" else 3
-
-
-def record_list(data):
-    """The records of an input."""
-    out, at = [], 0
-    while at < len(data):
-        body = at + head_size(data[at:])
-        end = body + int.from_bytes(data[body - 2 : body], "big")
-        out.append(data[at:end])
-        at = end
-    return out
 
 
 def with_body(record, body):
@@ -54,8 +40,10 @@ def fewer(items, holds):
 
 def shrink(options):
     program, name = built.need(options.program), options.input.name.removesuffix(".input")
-    data = options.input.read_bytes()
-    words = options.input.with_name(f"{name}.words").read_text().split("\n")
+    beside = options.input.with_name(f"{name}.words")
+    for path in (options.input, beside):
+        built.need_file(path)
+    data, words = options.input.read_bytes(), beside.read_text().split("\n")
 
     def unlike(words, data):
         return run(program, words, data) != outcome(words, data)

@@ -9,42 +9,28 @@ runs. The copy's crates are proved first, unless rt keeps them from an earlier r
 """
 
 import argparse
-import pathlib
-import shutil
 import subprocess
 import sys
 import tempfile
+from pathlib import Path
 
-HERE = pathlib.Path(__file__).resolve().parent
-ROOT = HERE.parent.parent
-LINE = (
-    "scan_time: hk_base hk_spec_sound hk_spec_streams hk_spec_matching hk_block hk_table hk_catalogue hk_probe\n"
-)
+HERE = Path(__file__).resolve().parent
+sys.path += [str(HERE.parent), str(HERE.parents[1] / "examples")]
+import added_crate  # noqa: E402
+import built  # noqa: E402
 
-# In which ledger the steps of a call are counted.
-GHOSTS = """use Rattle.scan_time.proofs.{caller}.Given as goal
-
-abbrev pub ghosts-{callee} : goal.ghosts-{callee}
-ghosts-{callee} a = record {{ name = a.blank.name; parts = a.blank.parts }}
-"""
+CRATES = "hk_base hk_spec_sound hk_spec_streams hk_spec_matching hk_block hk_table hk_catalogue hk_probe"
+CALLS = (("a_look", "time_of_a_look"), ("windows_alone", "time_of_windows"))
 
 
-def our_scan(folder):
-    copy = folder / "copy"
-    shutil.copytree(ROOT, copy, ignore=shutil.ignore_patterns(".git"))
-    (copy / ".git").mkdir()
-    with open(copy / "crates.txt", "a") as crates:
-        crates.write(LINE)
-    crate = copy / "crates" / "scan_time"
-    (crate / "src").mkdir(parents=True)
-    shutil.copy(HERE / "program.txt", crate / "src" / "main.rt")
-    for caller, callee in (("a_look", "time_of_a_look"), ("windows_alone", "time_of_windows")):
-        (crate / "proofs" / caller).mkdir(parents=True)
-        (crate / "proofs" / caller / "Invariants.antt").write_text(GHOSTS.format(caller=caller, callee=callee))
-    done = subprocess.run(["rt", "run"], cwd=crate, capture_output=True, text=True)
-    lines = [line for line in done.stdout.splitlines() if line.startswith("a look:")]
+def our_scan():
+    proofs = {
+        f"{caller}/Invariants.antt": added_crate.counted_in("scan_time", caller, callee) for caller, callee in CALLS
+    }
+    text, said = added_crate.run(HERE / "program.txt", CRATES, proofs)
+    lines = [line for line in text.splitlines() if line.startswith("a look:")]
     if not lines:
-        sys.exit(done.stdout + done.stderr)
+        sys.exit(said)
     print("\n".join(lines))
 
 
@@ -58,12 +44,10 @@ def plain_loop(folder):
 
 def main():
     argparse.ArgumentParser(description=__doc__, formatter_class=argparse.RawDescriptionHelpFormatter).parse_args()
-    for name in ("rustc", "rt"):
-        if shutil.which(name) is None:
-            sys.exit(f"there is no {name}")
+    built.need_commands("rustc", "rt")
     with tempfile.TemporaryDirectory() as folder:
-        plain_loop(pathlib.Path(folder))
-        our_scan(pathlib.Path(folder))
+        plain_loop(Path(folder))
+    our_scan()
 
 
 if __name__ == "__main__":

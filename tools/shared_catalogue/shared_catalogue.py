@@ -11,27 +11,22 @@ The copy's crates are proved first, unless rt keeps them from an earlier rt ci.
 """
 
 import argparse
-import pathlib
 import re
-import shutil
-import subprocess
 import sys
-import tempfile
+from pathlib import Path
 
-HERE = pathlib.Path(__file__).resolve().parent
-ROOT = HERE.parent.parent
+HERE = Path(__file__).resolve().parent
+sys.path += [str(HERE.parent), str(HERE.parents[1] / "examples")]
+import added_crate  # noqa: E402
+import built  # noqa: E402
+
 PUBLISHES, READINGS, IDS = 10000, 8, 12
 MOST_ERRORS = 2867
-LINE = "shared_catalogue: hk_base hk_block hk_table hk_catalogue hk_publish\n"
+CRATES = "hk_base hk_block hk_table hk_catalogue hk_publish"
 COUNTS = re.compile(r"reading (\d+): (\d+) looks, (\d+) differences, (\d+) ns, (\d+) ns")
 
 PROOFS = {
-    # In which ledger the steps of a look are counted.
-    "Seat/look/Invariants.antt": """use Rattle.shared_catalogue.proofs.Seat.look.Given as goal
-
-abbrev pub ghosts-look_in : goal.ghosts-look_in
-ghosts-look_in g a = record { name = a.blank.name; parts = a.blank.parts }
-""",
+    "Seat/look/Invariants.antt": added_crate.counted_in("shared_catalogue", "Seat.look", "look_in"),
     # The readings that have no seat yet have few positions.
     "seat_all/Invariants.antt": """use Rattle.std.proofs.Common.{◌≤◌}
 use Rattle.std.specs.List.{All}
@@ -78,23 +73,9 @@ def expected():
     return sums
 
 
-def printed(folder):
-    copy = pathlib.Path(folder) / "copy"
-    shutil.copytree(ROOT, copy, ignore=shutil.ignore_patterns(".git"))
-    (copy / ".git").mkdir()
-    with open(copy / "crates.txt", "a") as crates:
-        crates.write(LINE)
-    crate = copy / "crates" / "shared_catalogue"
-    (crate / "src").mkdir(parents=True)
-    shutil.copy(HERE / "program.txt", crate / "src" / "main.rt")
-    for name, text in PROOFS.items():
-        file = crate / "proofs" / name
-        file.parent.mkdir(parents=True, exist_ok=True)
-        file.write_text(text)
-    done = subprocess.run(["rt", "run"], cwd=crate, capture_output=True, text=True)
-    if f"published {PUBLISHES}" not in done.stdout:
-        sys.exit(done.stdout + done.stderr)
-    return done.stdout.splitlines()
+def printed():
+    text, said = added_crate.run(HERE / "program.txt", CRATES, PROOFS)
+    return text.splitlines() if f"published {PUBLISHES}" in text else sys.exit(said)
 
 
 def judge(lines):
@@ -117,11 +98,8 @@ def judge(lines):
 
 def main():
     argparse.ArgumentParser(description=__doc__, formatter_class=argparse.RawDescriptionHelpFormatter).parse_args()
-    if shutil.which("rt") is None:
-        sys.exit("there is no rt")
-    with tempfile.TemporaryDirectory() as folder:
-        lines = printed(folder)
-    looks, versions, differences, beside, alone = judge(lines)
+    built.need_commands("rt")
+    looks, versions, differences, beside, alone = judge(printed())
     print(f"{PUBLISHES} publishes, {READINGS} readings, {looks} looks, {versions} versions seen: {differences} differences")
     print(f"a look took {beside:.0f} ns beside the desk, {alone:.0f} ns without it: {beside / alone:.2f} times as long")
     sys.exit(1 if differences else 0)

@@ -25,32 +25,30 @@ from collections import Counter
 from pathlib import Path
 
 HERE = Path(__file__).resolve().parent
-ROOT = HERE.parent.parent
-PROGRAM = ROOT / "crates/hkreplay/out/hkreplay"
+sys.path.append(str(HERE.parents[1] / "examples"))
+import built  # noqa: E402
+from input_parts import (  # noqa: E402
+    MOST,
+    OPERATOR_HELLO,
+    PIECE,
+    PRINTS,
+    PUBLISH,
+    add,
+    data,
+    operator,
+    station,
+    station_hello,
+)
+
 FLAGS = ["-O3", "-march=x86-64-v2"]
-BLOCK, HOP, RECORD, MOST_WORDS = 256, 64, 65535, 250000
-
-
-def records(head, data):
-    """The bytes in records that begin so."""
-    return b"".join(
-        head + struct.pack(">H", len(piece)) + piece
-        for piece in (data[i : i + RECORD] for i in range(0, len(data), RECORD))
-    )
+BLOCK, HOP, MOST_WORDS = 256, 64, 250000
 
 
 def replay_input(songs, prints):
     """An input whose operator adds these recordings and publishes, and whose station sends these prints."""
-    operator = [b"HKO1"]
-    for number, words in songs:
-        operator.append(struct.pack(">BII", 1, 4 + 4 * len(words), number) + struct.pack(f">{len(words)}I", *words))
-    operator.append(struct.pack(">BI", 6, 0))
-    station = [b"HKS1\x00\x01"]
-    for i in range(0, len(prints), 8000):
-        part = prints[i : i + 8000]
-        data = struct.pack(f">{2 * len(part)}I", *(n for print_ in part for n in print_))
-        station.append(struct.pack(">BH", 1, len(data)) + data)
-    return records(b"O", b"".join(operator)) + records(b"S\x00", b"".join(station))
+    payload = b"".join(struct.pack(">II", *each) for each in prints)
+    commands = operator(OPERATOR_HELLO, *(add(number, words) for number, words in songs), PUBLISH, most=MOST)
+    return commands + station(0, station_hello(PRINTS), data(payload, PIECE), most=MOST)
 
 
 def reference_input(songs, prints):
@@ -169,12 +167,14 @@ def main():
     parser.add_argument("--rounds", type=int, default=3)
     parser.add_argument("--long", action="store_true")
     parser.add_argument("--sound", nargs="+", metavar="FILE")
-    parser.add_argument("--program", default=str(PROGRAM))
+    built.add_option(parser)
     given = parser.parse_args()
-    if not Path(given.program).exists():
-        sys.exit(f"looks: {given.program} isn't built; rt ci builds it")
+    program = built.need(given.program)
+    built.need_commands("gcc")
+    for file in given.sound or ():
+        built.need_file(Path(file))
     with tempfile.TemporaryDirectory() as folder:
-        bench = Bench(folder, given.program, given.rounds)
+        bench = Bench(folder, program, given.rounds)
         if given.long:
             long_row(bench)
             return

@@ -15,23 +15,24 @@ import argparse
 import os
 import re
 import shlex
-import struct
 import subprocess
 import sys
 import tempfile
 from array import array
 from dataclasses import dataclass, field
+from itertools import islice
 from pathlib import Path
 
 HERE = Path(__file__).resolve().parent
-ROOT = HERE.parent.parent
-PROGRAM = ROOT / "crates/hkreplay/out/hkreplay"
-BUILD = "(cd crates/hkreplay && rt run -- replay < ../../examples/first.input)"
+sys.path.append(str(HERE.parents[1] / "examples"))
+import built  # noqa: E402
+from input_parts import data, draws, station, station_hello  # noqa: E402
+
 RATE, CHANNELS, FACTOR, FLIPS = 44100, 2, 8, 4
 GROUP = 2 * CHANNELS
 FRAME, HOP = 2048, 64
 BLOCK, BLOCK_HOP = 256, 64
-RECORD = 32768
+PACKET = 32768
 # proved programs are built for processors with SSE4.2, and so is the reference
 FLAGS = "-O3 -march=x86-64-v2"
 
@@ -68,10 +69,7 @@ class Runner:
 
 def made_sound(seconds):
     """Samples that are the high parts of draws from the state 17, less 32768."""
-    state, samples = 17, array("h")
-    for _ in range(seconds * RATE * CHANNELS):
-        state = (1103515245 * state + 12345) % 2**31
-        samples.append(state // 2**15 - 32768)
+    samples = array("h", (high - 32768 for high in islice(draws(17), seconds * RATE * CHANNELS)))
     if sys.byteorder == "big":
         samples.byteswap()
     return samples.tobytes()
@@ -84,11 +82,7 @@ def frames_in(size):
 
 def write_replay(sound, path):
     """The input in which station 0 sends the sound, and there is no operator."""
-    with open(path, "wb") as file:
-        file.write(b"S\0" + struct.pack(">H", 6) + b"HKS1" + bytes([CHANNELS, FACTOR]))
-        for i in range(0, len(sound), RECORD):
-            piece = sound[i : i + RECORD]
-            file.write(b"S\0" + struct.pack(">HBH", len(piece) + 3, 1, len(piece)) + piece)
+    path.write_bytes(station(0, station_hello(CHANNELS, FACTOR), data(sound, PACKET), most=PACKET + 3))
 
 
 def report_of(size):
@@ -98,11 +92,11 @@ def report_of(size):
     return "\n".join([*lines, f"T S 0 {blocks} 0 ended", "T O 0 0 ended", ""]).encode()
 
 
-def built(folder, name, flags):
+def reference(folder, name, flags):
     to = folder / name.replace(" ", "_")
     try:
         subprocess.run(["gcc", *flags, "-o", to, HERE / "print_reference.c"], check=True)
-    except (OSError, subprocess.CalledProcessError) as error:
+    except subprocess.CalledProcessError as error:
         sys.exit(f"speed: gcc doesn't build the reference: {error}")
     return [to, str(CHANNELS), str(FACTOR), str(FLIPS)]
 
@@ -110,7 +104,7 @@ def built(folder, name, flags):
 def references(folder, flags, sound, prints):
     """The plain program in both forms: the first one is what ratios are told to."""
     return [
-        Runner(f"reference in {name}", built(folder, name, [*flags, f"-DPART={part}"]), sound, prints)
+        Runner(f"reference in {name}", reference(folder, name, [*flags, f"-DPART={part}"]), sound, prints)
         for name, part in (("64 bits", "int64_t"), ("32 bits", "int32_t"))
     ]
 
@@ -176,7 +170,7 @@ def options_of(words):
     sound.add_argument("--input", type=Path, metavar="FILE", help="sound to take in its place")
     parser.add_argument("--rounds", type=int, default=5, help="runs of each program (5)")
     parser.add_argument("--parts", action="store_true", help="print also where the time goes")
-    parser.add_argument("--program", type=Path, default=PROGRAM, help="hkreplay (that of crates/hkreplay/out)")
+    built.add_option(parser)
     parser.add_argument("--flags", default=FLAGS, help=f"gcc's, as --flags='-O2 -march=native' (those of '{FLAGS}')")
     options = parser.parse_args(words)
     if options.seconds < 1 or options.rounds < 1:
@@ -188,8 +182,8 @@ def options_of(words):
 
 def main():
     options = options_of(sys.argv[1:])
-    if not options.program.is_file():
-        sys.exit(f"speed: {options.program} isn't built; at the repository's top {BUILD} builds it")
+    program = built.need(options.program)
+    built.need_commands("gcc")
     with tempfile.TemporaryDirectory(prefix="speed.") as name:
         folder = Path(name)
         sound, prints = options.input, folder / "prints"
@@ -197,7 +191,7 @@ def main():
             sound = folder / "sound.raw"
             sound.write_bytes(made_sound(options.seconds))
         plain = references(folder, shlex.split(options.flags), sound, prints)
-        ours = programs(folder, options.program, sound, prints)
+        ours = programs(folder, program, sound, prints)
         for _ in range(options.rounds):
             for runner in plain + ours:
                 runner.run(folder / "text")

@@ -9,28 +9,15 @@ sum over them. This script makes the same edits in a dictionary and compares eac
 """
 
 import argparse
-import pathlib
-import shutil
-import subprocess
 import sys
-import tempfile
+from pathlib import Path
 
-HERE = pathlib.Path(__file__).resolve().parent
-ROOT = HERE.parent.parent
+HERE = Path(__file__).resolve().parent
+sys.path += [str(HERE.parent), str(HERE.parents[1] / "examples")]
+import added_crate  # noqa: E402
+import built  # noqa: E402
+
 EDITS, SONGS, POSITIONS = 10000, 30, 6000
-
-LOOP = """use Rattle.std.proofs.Common.{length}
-use Rattle.table_random.proofs.places.Given as goal
-
-abbrev pub decreases-loop-place : goal.decreases-loop-place
-decreases-loop-place g l = length l.walk.places
-"""
-
-GHOSTS = """use Rattle.table_random.proofs.places_of.Given as goal
-
-abbrev pub ghosts-places : goal.ghosts-places
-ghosts-places a = record { name = a.blank.name; parts = a.blank.parts }
-"""
 
 
 def after(state):
@@ -68,32 +55,18 @@ def expected():
         yield f"{len(places)} {sum(places) % 2**64}"
 
 
-def printed(folder):
-    copy = pathlib.Path(folder) / "copy"
-    shutil.copytree(ROOT, copy, ignore=shutil.ignore_patterns(".git"))
-    (copy / ".git").mkdir()
-    with open(copy / "crates.txt", "a") as crates:
-        crates.write("table_random: hk_base hk_table hk_catalogue\n")
-    crate = copy / "crates" / "table_random"
-    (crate / "src").mkdir(parents=True)
-    shutil.copy(HERE / "program.txt", crate / "src" / "main.rt")
-    for name, text in (("places", LOOP), ("places_of", GHOSTS)):
-        (crate / "proofs" / name).mkdir(parents=True)
-        (crate / "proofs" / name / "Invariants.antt").write_text(text)
-    done = subprocess.run(["rt", "run"], cwd=crate, capture_output=True, text=True)
-    lines = [line for line in done.stdout.splitlines() if all(part.isdigit() for part in line.split())]
-    if not lines:
-        sys.exit(done.stdout + done.stderr)
-    return lines
+def printed():
+    text, said = added_crate.run(
+        HERE / "program.txt", "hk_base hk_table hk_catalogue", added_crate.proofs_of_places("table_random")
+    )
+    lines = [line for line in text.splitlines() if all(part.isdigit() for part in line.split())]
+    return lines or sys.exit(said)
 
 
 def main():
     argparse.ArgumentParser(description=__doc__, formatter_class=argparse.RawDescriptionHelpFormatter).parse_args()
-    if shutil.which("rt") is None:
-        sys.exit("there is no rt")
-    with tempfile.TemporaryDirectory() as folder:
-        lines = printed(folder)
-    wanted = list(expected())
+    built.need_commands("rt")
+    lines, wanted = printed(), list(expected())
     for number, (line, want) in enumerate(zip(lines, wanted)):
         if line != want:
             sys.exit(f"after edit {number}: {line} is printed, {want} is expected")

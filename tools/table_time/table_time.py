@@ -10,29 +10,19 @@ proved first, unless rt keeps them from an earlier rt ci. A recording comes to a
 the first of the others goes, and words are walked. Each time is the least of all runs, in milliseconds of processor
 time.
 """
+
 import argparse
-import pathlib
-import shutil
 import subprocess
 import sys
 import tempfile
+from pathlib import Path
 
-HERE = pathlib.Path(__file__).resolve().parent
-ROOT = HERE.parent.parent
+HERE = Path(__file__).resolve().parent
+sys.path += [str(HERE.parent), str(HERE.parents[1] / "examples")]
+import added_crate  # noqa: E402
+import built  # noqa: E402
+
 RUNS = 3
-
-LOOP = """use Rattle.std.proofs.Common.{length}
-use Rattle.table_time.proofs.places.Given as goal
-
-abbrev pub decreases-loop-place : goal.decreases-loop-place
-decreases-loop-place g l = length l.walk.places
-"""
-
-GHOSTS = """use Rattle.table_time.proofs.places_of.Given as goal
-
-abbrev pub ghosts-places : goal.ghosts-places
-ghosts-places a = record { name = a.blank.name; parts = a.blank.parts }
-"""
 
 
 def times(output):
@@ -54,32 +44,21 @@ def plain_nodes(folder):
 
 
 def our_catalogue(folder):
-    copy = folder / "copy"
-    shutil.copytree(ROOT, copy, ignore=shutil.ignore_patterns(".git"))
-    (copy / ".git").mkdir()
-    with open(copy / "crates.txt", "a") as crates:
-        crates.write("table_time: hk_base hk_table hk_catalogue\n")
-    crate = copy / "crates" / "table_time"
-    (crate / "src").mkdir(parents=True)
-    shutil.copy(HERE / "program.txt", crate / "src" / "main.rt")
-    for name, text in (("places", LOOP), ("places_of", GHOSTS)):
-        (crate / "proofs" / name).mkdir(parents=True)
-        (crate / "proofs" / name / "Invariants.antt").write_text(text)
-    done = subprocess.run(["rt", "run"], cwd=crate, capture_output=True, text=True)
-    if not times(done.stdout):
-        sys.exit(done.stdout + done.stderr)
-    yield "catalogue", times(done.stdout)
+    text, said = added_crate.run(
+        HERE / "program.txt", "hk_base hk_table hk_catalogue", added_crate.proofs_of_places("table_time")
+    )
+    if not times(text):
+        sys.exit(said)
+    yield "catalogue", times(text)
 
 
 def main():
     argparse.ArgumentParser(description=__doc__, formatter_class=argparse.RawDescriptionHelpFormatter).parse_args()
-    for name in ("rustc", "rt"):
-        if shutil.which(name) is None:
-            sys.exit(f"there is no {name}")
+    built.need_commands("rustc", "rt")
     least = {}
     with tempfile.TemporaryDirectory() as folder:
         for kind in (plain_nodes, our_catalogue):
-            for name, lines in kind(pathlib.Path(folder)):
+            for name, lines in kind(Path(folder)):
                 for positions, new in lines.items():
                     old = least.get((positions, name), new)
                     least[positions, name] = [min(pair) for pair in zip(old, new)]
