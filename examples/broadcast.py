@@ -1,11 +1,12 @@
 #!/usr/bin/env python3
-"""Makes a broadcast of two recordings of Debian's package wesnoth-1.16-music, as a station would air it, and the schedule
-that `companions/hk pack` takes.
+"""Makes a broadcast of two recordings of Debian's package wesnoth-1.16-music, as a station would air it, and what the
+companions need to name its plays.
 
     broadcast.py FOLDER
 
-FOLDER gets broadcast.mp3 (64 kbit a second, with cuts, silence, other sound, and noise 10 dB below one of the plays),
-day.toml, and truth.csv, which says what was played when. It needs ffmpeg."""
+FOLDER gets broadcast.mp3 (138 s at 64 kbit a second, with cuts, silence, other sound, and noise 10 dB below one of the
+plays), day.toml for `companions/hk pack`, day.commands for `companions/hk operate`, and truth.csv, which says what was
+played when, and how many seconds behind the beginning. It needs ffmpeg."""
 
 import argparse
 import sys
@@ -70,17 +71,19 @@ def main():
     need(MUSIC)
     folder.mkdir(parents=True, exist_ok=True)
     decoded = {number: ffmpeg(["-i", str(path), *RAW, "-"]) for number, path in FILES.items()}
-    sound, truth = bytearray(), ["title,began,ended"]
+    sound, truth = bytearray(), ["title,began,ended,station_second"]
     titles = dict(RECORDINGS)
     for number, first, length, what in AIRED:
         began = len(sound) / seconds(1)
         sound += sound_of(decoded, number, first, length, what)
         if number is not None:
             minutes = [clock(second) for second in (began, len(sound) / seconds(1))]
-            truth.append(",".join((titles[number], *minutes)))
+            truth.append(",".join((titles[number], *minutes, f"{began:.3f}")))
     ffmpeg([*RAW, "-i", "-", "-b:a", "64k", "-y", str(folder / "broadcast.mp3")], bytes(sound))
     recordings = (RECORDING.format(number=n, title=title, file=FILES[n]) for n, title in RECORDINGS)
     (folder / "day.toml").write_text(SCHEDULE.format(recordings="".join(recordings)))
+    commands = (f"add {n} {FILES[n]} {title}\n" for n, title in RECORDINGS)
+    (folder / "day.commands").write_text("".join(commands) + "publish\n")
     (folder / "truth.csv").write_text("\n".join(truth) + "\n")
 
 

@@ -139,7 +139,7 @@ def say_operator(operator, settings, findings):
     for number, spans in operator.silent.items():
         for first, last in spans:
             findings.say(
-                f"  recording {number} is silent from {first:.1f} to {last:.1f} s: silent stations match there"
+                f"  recording {number} is silent from {first:.1f} to {last:.1f} s: silent stations may match there"
             )
     if operator.waiting:
         findings.mend(f"{operator.waiting} edits wait for a publish that never comes")

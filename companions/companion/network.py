@@ -1,8 +1,12 @@
 """Connections to hkmon."""
 
 import socket
+import time
 
 from .saying import Trouble
+
+# seconds for which a refused connection is tried again: hkmon takes its memory before it listens
+PATIENCE = 3.0
 
 
 def address_of(text, port):
@@ -16,10 +20,14 @@ def address_of(text, port):
 
 
 def connected(address, what):
-    try:
-        return socket.create_connection(address, timeout=10)
-    except OSError as error:
-        where = f"{address[0]}:{address[1]}"
-        raise Trouble(
-            f"{where} takes no {what} ({error.strerror or error})", "start hkmon first, and give its port"
-        ) from error
+    end = time.monotonic() + PATIENCE
+    while True:
+        try:
+            return socket.create_connection(address, timeout=10)
+        except OSError as error:
+            if not isinstance(error, ConnectionRefusedError) or time.monotonic() >= end:
+                where = f"{address[0]}:{address[1]}"
+                raise Trouble(
+                    f"{where} takes no {what} ({error.strerror or error})", "start hkmon first, and give its port"
+                ) from error
+        time.sleep(0.1)

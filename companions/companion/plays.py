@@ -20,7 +20,9 @@ of its begin and end by the clock, what part of the recording it was, and how su
 Blocks are one play while the recording's place goes on with the station's time. Blocks without a match are joined
 over up to --join seconds, also over a gap of the stream, and each join is said. Of several items of one recording in
 a line the one with the fewest errors counts; a play inside a longer one of the same recording is a repeat in it.
-A play of silence, of the station or in the recording, is marked: all silence is alike.
+A play of silence, of the station or in the recording, is marked: all silence is alike. --without-silent leaves such
+plays out. A block of 3.35 s is found where three tenths of it are heard well, so that a play may seem to begin up to
+2.4 s early, and to end as much late.
 
 --beside is OUTPUT.json of hk pack, or the folder of hk send --keep: without it there are no titles and no clock."""
 

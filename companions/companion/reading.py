@@ -258,9 +258,7 @@ class OperatorStream(Framed):
             song, self.open = self.open, None
             answer = self.add(song.number, song.form.prints(song.size))
             if answer == "ok":
-                # a shorter silence has no block in it
-                least = song.form.block_seconds()
-                self.silent[song.number] = [span for span in song.silence.spans() if span[1] - span[0] >= least]
+                self.silent[song.number] = song.silence.spans()
             return answer
         if kind == 5:
             return "ok" if self.present.pop(number, None) is not None else "refused unknown"

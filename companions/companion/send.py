@@ -4,20 +4,22 @@ import subprocess
 import sys
 import threading
 import time
+from collections import deque
 
 from .kept import Keeper
 from .network import address_of, connected
 from .saying import Trouble
 from .schedule import FACTORS
-from .sound import Form, Sound, decoder_words, is_url
+from .sound import Form, Sound, decoder_words, is_url, need_source
 from .streams import GAP, PIECE as PACKET, data, fence, station_hello
 
 WHAT = "send live or recorded sound to hkmon as a station"
 HELP = """Sends sound to hkmon: a URL or a file by ffmpeg, .raw, .pcm and fitting .wav files as they are, or with - raw
 sound from standard input. Each source is a station, and connects in the order given, since hkmon numbers stations by
 the order of their connections. hkmon reads once all its stations and the operator have connected; until then what is
-sent waits.
+sent waits. What is sent before the operator's first publish is compared with nothing: --wait gives the operator time.
 
+A source that can't be opened at all, for want of its file or of ffmpeg, is refused before a station's place is taken.
 A live source (a URL, or with --live) that fails is opened again after growing pauses while the connection to hkmon
 stays, and a gap is sent for what was missed: a station's run doesn't end with its stream. With --keep all that was
 sent is kept for hkreplay: hk pack --kept makes an input of it."""
@@ -37,8 +39,12 @@ def arguments(parser):
     parser.add_argument("--channels", type=int, choices=(1, 2), default=2, help="channels of the sound (2)")
     parser.add_argument("--factor", type=int, choices=FACTORS, default=8, help="the factor (8)")
     parser.add_argument("--rate", type=int, help="samples a second (5512.5 times the factor)")
+    parser.add_argument("--name", action="append", metavar="NAME", help="the station's name; once for each source")
     parser.add_argument("--first", type=int, default=0, metavar="N", help="the number of the first station (0)")
     parser.add_argument("--fence", type=int, metavar="V", help="ask first that the catalogue has come to version V")
+    parser.add_argument(
+        "--wait", type=float, default=0.0, metavar="S", help="seconds from connecting to the first sound (0)"
+    )
     parser.add_argument("--real-time", action="store_true", help="send a file no faster than it plays")
     parser.add_argument(
         "--live", action="store_true", help="open each source again when it ends, as is done for URLs"
@@ -51,24 +57,35 @@ class Source:
     """One opening of a source: pieces of its sound, until it ends or fails."""
 
     def __init__(self, name, form):
-        self.process, self.sound = None, None
+        self.process, self.sound, self.said = None, None, deque(maxlen=1)
         size = round(PIECE * form.rate) * form.group
         if name == "-":
             self.read = lambda: sys.stdin.buffer.read(size)
         elif is_url(name):
             self.process = subprocess.Popen(
-                decoder_words(name, form), stdout=subprocess.PIPE, stderr=subprocess.DEVNULL
+                decoder_words(name, form), stdout=subprocess.PIPE, stderr=subprocess.PIPE
             )
+            # ffmpeg may complain for days: the last line is kept
+            self.listening = threading.Thread(target=self.said.extend, args=(self.process.stderr,), daemon=True)
+            self.listening.start()
             self.read = lambda: self.process.stdout.read(size)
         else:
             self.sound = Sound(name, form)
             self.read = lambda: self.sound.read(size)
+
+    def reason(self):
+        """What ffmpeg said last, in brackets."""
+        if self.process is not None:
+            self.listening.join(1)
+        return f" ({self.said[0].decode(errors='replace').strip()})" if self.said else ""
 
     def close(self):
         if self.process is not None:
             self.process.kill()
             self.process.stdout.close()
             self.process.wait()
+            self.listening.join(1)
+            self.process.stderr.close()
         if self.sound is not None:
             self.sound.close()
 
@@ -86,6 +103,7 @@ class Station(threading.Thread):
         self.socket.settimeout(None)
         told = {
             "station": number,
+            "name": given.name[number - given.first] if given.name else None,
             "source": name,
             "channels": form.channels,
             "factor": form.factor,
@@ -106,6 +124,7 @@ class Station(threading.Thread):
 
     def run(self):
         try:
+            self.over.wait(self.given.wait)
             self.send_all()
             # the stream ends between two packets, and so in order
             self.socket.close()
@@ -117,9 +136,9 @@ class Station(threading.Thread):
     def send_all(self):
         pause = 1.0
         while not self.over.is_set():
-            began = time.monotonic()
+            began, reason = time.monotonic(), ""
             try:
-                self.send_source()
+                reason = self.send_source()
             except Trouble as trouble:
                 if not self.live or "hkmon" in str(trouble):
                     raise
@@ -131,25 +150,27 @@ class Station(threading.Thread):
                 self.heard = False
             if time.monotonic() - began > HEALTHY:
                 pause = 1.0
-            self.speaker.note(
-                f"station {self.number}: {self.name_of_source} has ended; it is opened again in {pause:.0f} s"
-            )
+            if not self.over.is_set():
+                ended = f"station {self.number}: {self.name_of_source} has ended{reason}"
+                self.speaker.note(f"{ended}; it is opened again in {pause:.0f} s")
             self.over.wait(pause)
             pause = min(2 * pause, LONGEST_PAUSE)
 
     def send_source(self):
+        """Sends one opening of the source; why it ended, where that was said."""
         source, began, played = Source(self.name_of_source, self.form), time.monotonic(), 0.0
         try:
             while not self.over.is_set():
                 piece = source.read()
                 if not piece:
-                    return
+                    return source.reason()
                 self.put(data(piece, PACKET))
                 self.sent += len(piece)
                 self.heard = True
                 played += len(piece) / self.form.second
                 if self.given.real_time:
                     self.over.wait(max(0.0, began + played - time.monotonic()))
+            return ""
         finally:
             source.close()
 
@@ -157,8 +178,7 @@ class Station(threading.Thread):
 def run(given, speaker):
     rate = given.rate or round(5512.5 * given.factor)
     form, over = Form(given.channels, given.factor, rate), threading.Event()
-    if given.source.count("-") > 1:
-        raise Trouble("standard input stands twice", "give - once")
+    check(given, form)
     stations = []
     for number, name in enumerate(given.source, given.first):
         stations.append(Station(number, name, given, form, speaker, over))
@@ -173,6 +193,19 @@ def run(given, speaker):
         station.join(10)
     speaker.clear()
     return said(stations, form, speaker)
+
+
+def check(given, form):
+    """What can be known before a station's place is taken."""
+    if given.source.count("-") > 1:
+        raise Trouble("standard input stands twice", "give - once")
+    if given.live and "-" in given.source:
+        raise Trouble("standard input can't be opened again", "leave --live out")
+    if given.name and len(given.name) != len(given.source):
+        raise Trouble(f"{len(given.name)} names for {len(given.source)} sources", "give --name once for each source")
+    for source in given.source:
+        if source != "-":
+            need_source(source, form)
 
 
 def watch(stations, seconds, speaker):

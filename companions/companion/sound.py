@@ -12,10 +12,10 @@ from .saying import Trouble, unreadable
 STEP = 64
 FRAME = 2048
 BLOCK = 256
-# silence shorter than this is in much music, and too short for a block to lie in it
+# shorter silence is in much music, and too little of a block to be taken for a silent station: docs/FINDING.md
 SHORTEST_SILENCE = 1.0
-# where silence is looked for: pieces of so many samples of each channel
-GRAIN = 1024
+# where silence is looked for: pieces of so many samples of each channel, times the factor, which are 23 ms
+GRAIN = 128
 
 
 @dataclass(frozen=True)
@@ -41,8 +41,8 @@ class Form:
         return STEP * self.factor / self.rate
 
     def block_seconds(self):
-        """How much sound a block hears: its prints' steps, and the rest of the last frame."""
-        return (BLOCK - 1) * self.print_seconds() + FRAME * self.factor / self.rate
+        """How much sound a block hears: a step for each print, and the frame behind the last step."""
+        return BLOCK * self.print_seconds() + FRAME * self.factor / self.rate
 
     def prints(self, size):
         """How many prints the bytes of one segment give."""
@@ -74,16 +74,48 @@ def decoder_words(source, form, offset=0.0, seconds=None):
     return words + ["-i", source, "-vn", "-f", "s16le", "-ac", str(form.channels), "-ar", str(form.rate), "-"]
 
 
+def is_raw(path):
+    return path.endswith((".raw", ".pcm"))
+
+
+def wave_of(path, form):
+    """The open WAV file, if it is one of just this form; another form is ffmpeg's work."""
+    if not path.endswith(".wav"):
+        return None
+    try:
+        found = wave.open(path, "rb")
+    except (wave.Error, EOFError):
+        return None
+    if (found.getnchannels(), found.getframerate(), found.getsampwidth()) != (form.channels, form.rate, 2):
+        found.close()
+        return None
+    return found
+
+
+def need_source(source, form):
+    """That a source can be opened: its file is there, and ffmpeg where that has to decode it."""
+    if is_url(source):
+        ffmpeg()
+        return
+    if not os.path.exists(source):
+        raise Trouble(f"{source}: no such file", "give a file of sound")
+    if not is_raw(source):
+        found = wave_of(source, form)
+        if found is None:
+            ffmpeg()
+        else:
+            found.close()
+
+
 class Sound:
     """Reads pieces of a file's sound in a form: raw and fitting WAV files directly, all else by ffmpeg."""
 
     def __init__(self, path, form, offset=0.0, seconds=None):
         self.path, self.form, self.process, self.file = path, form, None, None
         self.left = None
-        if not is_url(path) and not os.path.exists(path):
-            raise Trouble(f"{path}: no such file", "give a file of sound")
+        need_source(path, form)
         try:
-            if path.endswith((".raw", ".pcm")):
+            if is_raw(path):
                 self.begin_raw(offset, seconds)
             elif not self.begin_wave(offset, seconds):
                 words = decoder_words(path, form, offset, seconds)
@@ -98,16 +130,9 @@ class Sound:
         self.left = self.size_of(seconds)
 
     def begin_wave(self, offset, seconds):
-        """Whether the file is a WAV of just this form; another form is ffmpeg's work."""
-        if not self.path.endswith(".wav"):
-            return False
-        try:
-            found = wave.open(self.path, "rb")
-        except (wave.Error, EOFError):
-            return False
-        form = self.form
-        if (found.getnchannels(), found.getframerate(), found.getsampwidth()) != (form.channels, form.rate, 2):
-            found.close()
+        """Whether the file is a WAV of just this form."""
+        form, found = self.form, wave_of(self.path, self.form)
+        if found is None:
             return False
         found.setpos(min(round(offset * form.rate), found.getnframes()))
         self.file, self.left = WaveFile(found, form.group), self.size_of(seconds)
@@ -164,7 +189,7 @@ class Silence:
     """Where sound has samples of 0 alone, for at least a second, told in seconds from its beginning."""
 
     def __init__(self, form):
-        self.grain = GRAIN * form.group
+        self.grain = GRAIN * form.factor * form.group
         self.form, self.rest, self.at, self.since, self.found = form, b"", 0, None, []
 
     def hear(self, piece):

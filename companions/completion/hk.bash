@@ -6,7 +6,7 @@ _hk_limits="--stations --hop --songs --positions --versions --bytes"
 _hk_words() {
   case "$1" in
     pack) echo "$_hk_common --kept --output --program" ;;
-    send) echo "$_hk_common --to --channels --factor --rate --first --fence --real-time --live --seconds --keep" ;;
+    send) echo "$_hk_common --to --channels --factor --rate --name --first --fence --wait --real-time --live --seconds --keep" ;;
     operate) echo "$_hk_common --to --channels --factor --rate --keep" ;;
     plays) echo "$_hk_common --beside --output --format --station --join --least --without-silent --factor --rate" ;;
     check) echo "$_hk_common --rate $_hk_limits" ;;

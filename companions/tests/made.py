@@ -11,6 +11,7 @@ import unittest
 import wave
 from array import array
 from contextlib import redirect_stderr, redirect_stdout
+from functools import cache
 
 HERE = os.path.dirname(os.path.dirname(os.path.abspath(__file__)))
 REPOSITORY = os.path.dirname(HERE)
@@ -32,12 +33,12 @@ FORM = {"channels": 1, "factor": 2, "rate": RATE}
 NEEDS_PROGRAM = unittest.skipIf(PROGRAM is None, "hkreplay isn't built")
 
 
-def tune(seed, seconds):
-    """Made music: a new chord of four tones each fifth of a second, and a little noise; samples of one channel."""
+def tune(seed, seconds, voices=4):
+    """Made music: a new chord of so many tones each fifth of a second, and a little noise; samples of one channel."""
     draw, samples = random.Random(seed), array("h")
-    step = RATE // 5
+    step, share = RATE // 5, 2 / math.sqrt(voices)
     for _ in range(math.ceil(seconds * 5)):
-        tones = [(draw.uniform(300, 2000), draw.uniform(1000, 4000), draw.uniform(0, 6)) for _ in range(4)]
+        tones = [(draw.uniform(300, 2000), share * draw.uniform(1000, 4000), draw.uniform(0, 6)) for _ in range(voices)]
         for place in range(step):
             second = place / RATE
             heard = sum(loud * math.sin(2 * math.pi * tone * second + phase) for tone, loud, phase in tones)
@@ -49,11 +50,32 @@ def silence(seconds):
     return array("h", bytes(2 * round(seconds * RATE)))
 
 
-def noisy(samples, seed, loudness):
-    draw = random.Random(seed)
-    return array(
-        "h", (max(-32768, min(32767, sample + round(draw.uniform(-loudness, loudness)))) for sample in samples)
-    )
+def noisy(samples, seed, decibels):
+    """With white noise so many decibels below the sound."""
+    draw, loudness = random.Random(seed), math.sqrt(sum(sample * sample for sample in samples) / len(samples))
+    # values that are evenly spread up to a have the loudness a / sqrt 3
+    most = loudness * math.sqrt(3) * 10 ** (-decibels / 20)
+    return array("h", (max(-32768, min(32767, sample + round(draw.uniform(-most, most)))) for sample in samples))
+
+
+@cache
+def tunes():
+    """The recordings of the broadcast and one that isn't played. The second has tones in all bands, as music has."""
+    return {"first": tune(1, 16), "second": tune(2, 16, 20), "third": tune(3, 12)}
+
+
+# what the broadcast plays: the title, from which of its seconds to which, and from which second of the tune
+BROADCAST = (("First tune", 6.0, 20.0, 0.0), ("Second tune", 26.0, 38.0, 2.0))
+
+
+def broadcast(first, second):
+    """46 seconds: other music, the first tune with a cut, other music, the second with noise 10 dB below, silence."""
+    sound = array("h", tune(101, 6))
+    sound.extend(first[: 14 * RATE])
+    sound.extend(tune(102, 6))
+    sound.extend(noisy(second[2 * RATE : 14 * RATE], 5, 10))
+    sound.extend(silence(8))
+    return sound
 
 
 def raw(samples):

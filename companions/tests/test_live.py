@@ -1,4 +1,4 @@
-"""A made broadcast, live: hkmon over sockets, hk operate and hk send as its clients, and a list of plays of its log."""
+"""The made broadcast, live: hkmon over sockets, hk operate and hk send as clients, and a list of plays of its log."""
 
 import csv
 import io
@@ -7,14 +7,14 @@ import subprocess
 import sys
 import time
 import unittest
+from datetime import datetime
 
-from .made import HK, InFolder, PROGRAM, RATE, hk, raw, replayed, tune, write_wave
+from .made import BROADCAST, HK, InFolder, PROGRAM, broadcast, hk, raw, replayed, tunes, write_wave
 from companion.program import monitor_path
 
 MONITOR = monitor_path()
 FORM = ("--channels", "1", "--factor", "2")
-# seconds: when the tune begins, how much of it is played, and what is played behind it
-AT, LENGTH, REST = 3.0, 8.0, 2.0
+COMMANDS = "add 7 first.wav 'First tune'\nadd 9 second.wav 'Second tune'\nadd 11 third.wav 'Never played'\npublish\n"
 # seconds that anything may take
 PATIENCE = 40
 
@@ -34,11 +34,10 @@ def listens(port):
 class PlaysLive(InFolder):
     def setUp(self):
         super().setUp()
-        tune_of_7 = tune(1, 10)
-        write_wave(self.path("first.wav"), tune_of_7)
-        self.sound = tune(2, AT)
-        self.sound.extend(tune_of_7[RATE : RATE + round(LENGTH * RATE)])
-        self.sound.extend(tune(3, REST))
+        sounds = tunes()
+        for name, samples in sounds.items():
+            write_wave(self.path(f"{name}.wav"), samples)
+        self.sound = broadcast(sounds["first"], sounds["second"])
         self.ports = free_ports()
         self.monitor = self.start(
             [MONITOR, "--station-port", self.ports[0], "--operator-port", self.ports[1]], stdin=subprocess.DEVNULL
@@ -65,32 +64,35 @@ class PlaysLive(InFolder):
         return self.start([sys.executable, HK, *words, "--quiet", "--keep", self.path("kept"), *FORM])
 
     def play_all(self):
-        """The operator publishes, the station plays, both end; the text of the replies."""
-        station = self.client("send", "-", "--to", f"127.0.0.1:{self.ports[0]}")
+        """The operator publishes, the station plays, both end; the text of the replies, and when the sound began."""
+        station = self.client("send", "-", "--name", "Radio One", "--to", f"127.0.0.1:{self.ports[0]}")
         operator = self.client("operate", "--to", f"127.0.0.1:{self.ports[1]}")
-        operator.stdin.write(b"add 7 first.wav 'First tune'\npublish\n")
+        operator.stdin.write(COMMANDS.encode())
         operator.stdin.flush()
-        replies = [operator.stdout.readline().decode() for _ in range(4)]
+        replies = [operator.stdout.readline().decode() for _ in range(10)]
+        began = time.time()
         _, err = station.communicate(raw(self.sound), timeout=PATIENCE)
         self.assertEqual((station.returncode, err), (0, b""))
         # an operator who has no more to say ends at once, while the monitor may go on
         rest, err = operator.communicate(timeout=PATIENCE)
         self.assertEqual((operator.returncode, rest, err), (0, b"", b""))
-        return replies
+        return replies, began
 
-    def test_a_play_that_is_sent_live_is_listed_from_the_log(self):
-        replies = self.play_all()
-        self.assertEqual([line.split("\t")[0] for line in replies], ["O 1 ok", "O 2 ok", "O 3 ok", "O 4 published 1"])
+    def test_plays_that_are_sent_live_have_their_titles_and_clock_times_and_none_is_false(self):
+        replies, sent = self.play_all()
+        self.assertEqual(replies[-1], "O 10 published 1\tpublish\n")
         summary, err = self.monitor.communicate(timeout=PATIENCE)
         self.assertEqual((self.monitor.returncode, err), (0, b""))
         log = self.text("station-0.log").splitlines()
-        self.assertEqual(summary.decode(), f"T S 0 {len(log)} 1 ended\nT O 4 1 ended\n")
+        self.assertEqual(summary.decode(), f"T S 0 {len(log)} 1 ended\nT O 10 1 ended\n")
         status, out, err = hk("plays", self.path("station-0.log"), "--beside", self.path("kept"))
         self.assertEqual(status, 0, err)
         rows = list(csv.DictReader(io.StringIO(out)))
-        self.assertEqual([(row["id"], row["title"]) for row in rows], [("7", "First tune")])
-        self.assertAlmostEqual(float(rows[0]["station_second"]), AT, delta=1.5)
-        self.assertAlmostEqual(float(rows[0]["seconds"]), LENGTH, delta=3)
+        self.assertEqual([row["title"] for row in rows], [title for title, *_ in BROADCAST])
+        self.assertEqual({row["station_name"] for row in rows}, {"Radio One"})
+        for row, (_, began, ended, _) in zip(rows, BROADCAST):
+            for name, second in (("began", began), ("ended", ended)):
+                self.assertAlmostEqual(datetime.fromisoformat(row[name]).timestamp() - sent, second, delta=3)
 
     @unittest.skipIf(PROGRAM is None, "hkreplay isn't built")
     def test_what_was_kept_of_it_is_replayed_to_the_same_lines(self):

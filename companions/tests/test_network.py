@@ -3,15 +3,19 @@
 import calendar
 import json
 import os
+import shutil
 import socket
 import subprocess
 import sys
 import threading
 import time
+import unittest
+from unittest.mock import patch
 
 from .made import HK, InFolder, RATE, hk, raw, silence, tune, write_wave
 from .test_pack import sound_of, streams_of
 from companion import streams as parts
+from companion.kept import KeptStream
 
 
 class Monitor:
@@ -136,12 +140,46 @@ class Sends(InFolder):
         monitor.finish()
         self.assertEqual(sound_of(monitor.streams[0]), [raw(self.tunes[0])])
 
+    def test_the_first_sound_waits_as_long_as_is_said(self):
+        monitor, kept = Monitor(self), self.path("kept")
+        words = ("send", self.path("0.wav"), "--wait", 1.5, "--keep", kept, "--to", monitor.address(), *self.form)
+        status, _, err = hk(*words)
+        self.assertEqual(status, 0, err)
+        monitor.finish()
+        self.assertEqual(sound_of(monitor.streams[0]), [raw(self.tunes[0])])
+        hello, first, *_ = KeptStream(os.path.join(kept, "station-0.kept")).pieces()
+        self.assertGreaterEqual(first[0] - hello[0], 1.4)
+
     def test_real_time_takes_as_long_as_it_plays(self):
         monitor = Monitor(self)
         began = time.monotonic()
         status, _, err = hk("send", self.path("1.wav"), "--real-time", "--to", monitor.address(), *self.form)
         self.assertEqual(status, 0, err)
         self.assertGreaterEqual(time.monotonic() - began, 1.7)
+
+    def refused_at_once(self, *words):
+        """What is said, where no connection is made."""
+        monitor = Monitor(self)
+        status, _, err = hk("send", *words, "--to", monitor.address(), *self.form)
+        monitor.finish()
+        self.assertEqual((status, err.count("\n"), monitor.streams), (1, 1, []))
+        return err
+
+    def test_a_source_that_cannot_be_opened_takes_no_station(self):
+        self.assertIn("none.wav: no such file", self.refused_at_once(self.path("0.wav"), self.path("none.wav")))
+        with patch.dict(os.environ, {"PATH": self.folder}):
+            self.assertIn("ffmpeg isn't there; install it", self.refused_at_once("http://127.0.0.1:1/none.mp3"))
+            write_wave(self.path("song.mp3"), self.tunes[0])
+            self.assertIn("ffmpeg isn't there; install it", self.refused_at_once(self.path("song.mp3")))
+        two_names = self.refused_at_once(self.path("0.wav"), "--name", "One", "--name", "Two")
+        self.assertIn("give --name once for each source", two_names)
+
+    @unittest.skipIf(shutil.which("ffmpeg") is None, "ffmpeg isn't installed")
+    def test_it_is_said_why_a_live_source_failed(self):
+        monitor = Monitor(self)
+        status, _, err = hk("send", "http://127.0.0.1:1/none.mp3", "--seconds", 1, "--to", monitor.address())
+        self.assertEqual(status, 0, err)
+        self.assertRegex(err, r"has ended \(.*Connection refused\); it is opened again in 1 s")
 
     def test_a_monitor_that_is_not_there_is_one_line(self):
         with socket.create_server(("127.0.0.1", 0)) as free:
@@ -218,7 +256,8 @@ class Keeps(InFolder):
         commands = self.write("commands", f"add 7 {self.path('song.wav')} 'First tune'\npublish\n")
         self.assertEqual(hk("operate", commands, "--to", operator.address(), *form)[0], 0)
         began = time.time()
-        sent = ("send", self.path("day.wav"), self.path("song.wav"), "--to", stations.address())
+        sent = ("send", self.path("day.wav"), self.path("song.wav"), "--name", "One", "--name", "Two")
+        sent = (*sent, "--to", stations.address())
         self.assertEqual(hk(*sent, *form)[0], 0)
         stations.finish()
         operator.finish()
@@ -232,6 +271,7 @@ class Keeps(InFolder):
         beside = json.loads(self.text("input.json"))
         self.assertEqual(beside["recordings"][0]["title"], "First tune")
         self.assertEqual([one["segments"][0]["seconds"] for one in beside["stations"]], [3.0, 4.0])
+        self.assertEqual([one["name"] for one in beside["stations"]], ["One", "Two"])
         clock = beside["stations"][0]["segments"][0]["began"]
         self.assertAlmostEqual(clock_seconds(clock), began, delta=60)
 

@@ -7,9 +7,9 @@ import os
 
 from .made import FORM, InFolder, hk
 
-# a print of this form begins each 128 / 11025 s, and a block hears 255 of these steps and a frame of 4096 samples
+# a print of this form begins each 128 / 11025 s, and a block hears 256 of these steps and a frame of 4096 samples
 STEP = 128 / 11025
-BLOCK = 255 * STEP + 4096 / 11025
+BLOCK = 256 * STEP + 4096 / 11025
 
 
 def line(station, number, segment, first, items, version=1):

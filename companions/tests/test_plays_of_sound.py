@@ -5,12 +5,8 @@ import io
 import shutil
 import subprocess
 import unittest
-from array import array
 
-from .made import NEEDS_PROGRAM, RATE, InFolder, hk, noisy, replayed, silence, tune, write_wave
-
-# seconds of the broadcast: what is played from where; between the plays is other music
-FIRST_AT, SECOND_AT, LENGTH = 6.0, 26.0, 46.0
+from .made import BROADCAST, NEEDS_PROGRAM, InFolder, broadcast, hk, replayed, tunes, write_wave
 
 SCHEDULE = """
 [sound]
@@ -41,25 +37,11 @@ file = "broadcast.{ending}"
 """
 
 
-def broadcast(first, second):
-    """Other music, the first tune with a cut, other music, the second in noise of 10 dB less, silence."""
-    sound = array("h", tune(101, FIRST_AT))
-    sound.extend(first[: 14 * RATE])
-    sound.extend(tune(102, SECOND_AT - FIRST_AT - 14))
-    sound.extend(noisy(second[2 * RATE : 14 * RATE], 5, 900))
-    sound.extend(silence(LENGTH - SECOND_AT - 12))
-    return sound
-
-
 class PlaysOfSound(InFolder):
-    def setUp(self):
-        super().setUp()
-        self.first, self.second = tune(1, 16), tune(2, 16)
-
     def plays(self, ending, made):
         """The rows of the list; `made` writes a file of sound."""
-        sounds = {"first": self.first, "second": self.second, "third": tune(3, 12)}
-        sounds["broadcast"] = broadcast(self.first, self.second)
+        sounds = tunes()
+        sounds["broadcast"] = broadcast(sounds["first"], sounds["second"])
         for name, samples in sounds.items():
             made(name, samples)
         schedule = self.write("day.toml", SCHEDULE.format(ending=ending))
@@ -73,8 +55,8 @@ class PlaysOfSound(InFolder):
         return list(csv.DictReader(io.StringIO(out)))
 
     def expect(self, rows):
-        self.assertEqual([row["title"] for row in rows], ["First tune", "Second tune"])
-        for row, began, ended, at in zip(rows, (FIRST_AT, SECOND_AT), (FIRST_AT + 14, SECOND_AT + 12), (0, 2)):
+        self.assertEqual([row["title"] for row in rows], [title for title, *_ in BROADCAST])
+        for row, (_, began, ended, at) in zip(rows, BROADCAST):
             self.assertEqual(row["began"][:17], "2026-12-01T06:00:")
             self.assertAlmostEqual(float(row["began"][17:-1]), began, delta=3)
             self.assertAlmostEqual(float(row["ended"][17:-1]), ended, delta=3)

@@ -121,11 +121,15 @@ class CheckSays(InFolder):
         self.assertEqual(status, 1)
         self.assertIn("1 edits wait for a publish that never comes", out)
 
-    def test_silence_in_a_recording_is_told(self):
+    def test_silence_in_a_recording_is_told_where_it_suffices_for_a_match(self):
         sound = bytes(range(1, 251)) * 40
         quiet = sound + bytes(2 * 5512 * 4) + sound
         operator = b"HKO1" + parts.open_song(9, 1, 1) + parts.audio(quiet) + parts.CLOSE + parts.PUBLISH
         status, out, _ = hk("check", self.input("quiet", operator), "--rate", 5512)
-        # 5000 samples, then four seconds of zeros; silence is found in whole grains of 1024 samples
-        self.assertIn("recording 9 is silent from 0.9 to 4.8 s", out)
+        # 5000 samples, then four seconds of zeros; silence is found in whole grains of 128 samples
+        self.assertIn("recording 9 is silent from 0.9 to 4.9 s", out)
         self.assertEqual(status, 0, out)
+        # a second and a half has no block in it, and yet makes a match with silence
+        short = b"HKO1" + parts.open_song(9, 1, 1) + parts.audio(sound + bytes(2 * 8268) + 2 * sound)
+        status, out, _ = hk("check", self.input("short", short + parts.CLOSE + parts.PUBLISH), "--rate", 5512)
+        self.assertIn("recording 9 is silent from 0.9 to 2.4 s", out)
