@@ -9,7 +9,8 @@ and proves and builds it with rt; with --program it takes one that is built. A s
 with plays of recordings among them, and an operator who adds, withdraws and publishes 200 times. All of them run at
 once, so which version a look finds is free; the rest is compared: each line, each end, the replies and the summary.
 With --speed each run has the same looks, of prints with many weak bits in a large catalogue, behind one publish; the
-time that a run takes without them is taken off.
+time that a run takes without them is taken off. Where other work has the cores, the user time of the busiest thread
+says how the looks were shared, and the time says nothing.
 """
 
 import argparse
@@ -20,6 +21,7 @@ import sys
 import tempfile
 import time
 from concurrent.futures import ProcessPoolExecutor
+from dataclasses import dataclass
 from functools import partial
 from pathlib import Path
 
@@ -28,6 +30,7 @@ sys.path[:0] = [str(HERE.parent), str(HERE.parent / "live")]
 
 import added_crate  # noqa: E402
 import judging  # noqa: E402
+import running  # noqa: E402
 import input_parts as parts  # noqa: E402
 
 USES = "hk_base hk_outside hk_monitor_top hk_publish hk_mio"
@@ -92,6 +95,30 @@ def some_songs(draw, many, least, most):
     return [[draw.getrandbits(32) for _ in range(draw.randrange(least, most))] for _ in range(many)]
 
 
+@dataclass
+class Times:
+    """Milliseconds of a run, and of user time of its busiest thread."""
+
+    run: int
+    busiest: int
+
+
+def busiest_thread(process):
+    """The milliseconds of user time of the thread that had most, looked at until the process ends."""
+    most, end = 0, time.monotonic() + 600
+    while process.poll() is None:
+        for stat in Path(f"/proc/{process.pid}/task").glob("*/stat"):
+            try:
+                ticks = int(stat.read_text(encoding="latin-1").rpartition(")")[2].split()[11])
+            except OSError:  # the thread has ended
+                continue
+            most = max(most, ticks * 1000 // running.TICKS)
+        if time.monotonic() > end:
+            process.kill()
+        time.sleep(0.01)
+    return most
+
+
 class Load:
     """What a run is given: its streams in the files of a folder, and the values of its options."""
 
@@ -106,18 +133,19 @@ class Load:
             (folder / "held").write_text(held)
 
     def run(self, program, workers):
-        """The status, the lines of the summary, and the milliseconds; the logs and replies are in the folder then."""
+        """The status, the lines of the summary, and the times; the logs and replies are in the folder then."""
         for old in (*self.folder.glob("*.log"), *self.folder.glob("replies")):
             old.unlink()
         words = [word for name, value in self.chosen.items() for word in (name, str(value))]
-        done = subprocess.run(
-            [program, *words, "--workers", str(workers)], cwd=self.folder, capture_output=True, text=True, timeout=600
-        )
-        *lines, last = done.stdout.splitlines() or [""]
+        with open(self.folder / "out", "w+") as out, open(self.folder / "errors", "w+") as errors:
+            words = [program, *words, "--workers", str(workers)]
+            with subprocess.Popen(words, cwd=self.folder, stdout=out, stderr=errors) as process:
+                busiest = busiest_thread(process)
+        *lines, last = self.text("out").splitlines() or [""]
         status = STATUS.fullmatch(last)
-        if done.returncode or status is None:
-            sys.exit(f"the program ended with the status {done.returncode}: {last!r} {done.stderr}")
-        return int(status[1]), lines, int(status[2])
+        if process.returncode or status is None:
+            sys.exit(f"the program ended with the status {process.returncode}: {last!r} {self.text('errors')}")
+        return int(status[1]), lines, Times(int(status[2]), busiest)
 
     def text(self, name):
         return (self.folder / name).read_text(encoding="latin-1")
@@ -182,7 +210,7 @@ def speed(program, given):
     """The times of 1, 2 and 4 workers with the same looks, each the least of some turns."""
     draw = random.Random(given.first)
     songs = some_songs(draw, 1000, 900, 1000)
-    streams = [station(draw, songs[:20], given.prints, weak=7) for _ in range(given.stations)]
+    streams = [station(draw, songs[:20], 2 * given.prints, weak=7) for _ in range(given.stations)]
     calls = parts.OPERATOR_HELLO + b"".join(parts.add(n, song) for n, song in enumerate(songs)) + parts.PUBLISH
     chosen = {"songs": 1000, "positions": 1000000, "hop": 64}
     least = {}
@@ -191,11 +219,16 @@ def speed(program, given):
         bare = Load(Path(other), [stream[:6] for stream in streams], calls, held="published 1", **chosen)
         for _ in range(TURNS):
             for workers in (1, 2, 4):
-                took = load.run(program, workers)[2] - bare.run(program, workers)[2]
-                least[workers] = min(took, least.get(workers, took))
+                times, without = load.run(program, workers)[2], bare.run(program, workers)[2]
+                took, old = Times(times.run - without.run, times.busiest), least.get(workers, times)
+                least[workers] = Times(min(took.run, old.run), min(took.busiest, old.busiest))
         blocks = versions_of(load)[1]
+    print(f"{blocks} blocks, the least of {TURNS} turns:")
     for workers, took in least.items():
-        print(f"{workers} workers: {took} ms for {blocks} blocks, {least[1] / took:.2f} times as fast as one")
+        print(
+            f"{workers} workers: {took.run} ms, {least[1].run / took.run:.2f} times as fast as one; "
+            f"busiest thread {took.busiest} ms, a part in {least[1].busiest / took.busiest:.2f}"
+        )
     return 0
 
 
