@@ -46,7 +46,6 @@ invariant-loop-n l = All HasEmpty l.stations.items
 }
 SONGS = 16
 IDLE = 20
-TURNS = 3
 STATUS = re.compile(r"status (\d+), (\d+) ms")
 
 
@@ -217,13 +216,13 @@ def speed(program, given):
     with tempfile.TemporaryDirectory(prefix="workers.") as one, tempfile.TemporaryDirectory(prefix="workers.") as other:
         load = Load(Path(one), streams, calls, held="published 1", **chosen)
         bare = Load(Path(other), [stream[:6] for stream in streams], calls, held="published 1", **chosen)
-        for _ in range(TURNS):
+        for _ in range(given.turns):
             for workers in (1, 2, 4):
                 times, without = load.run(program, workers)[2], bare.run(program, workers)[2]
                 took, old = Times(times.run - without.run, times.busiest), least.get(workers, times)
                 least[workers] = Times(min(took.run, old.run), min(took.busiest, old.busiest))
         blocks = versions_of(load)[1]
-    print(f"{blocks} blocks, the least of {TURNS} turns:")
+    print(f"{blocks} blocks, the least of {given.turns} turns:")
     for workers, took in least.items():
         print(
             f"{workers} workers: {took.run} ms, {least[1].run / took.run:.2f} times as fast as one; "
@@ -242,6 +241,7 @@ def main():
     parser.add_argument("--stations", type=int, default=64, metavar="N", help="how many stations (64)")
     parser.add_argument("--publishes", type=int, default=200, metavar="N", help="how many publishes (200)")
     parser.add_argument("--prints", type=int, default=2000, metavar="N", help="the least prints of a station (2000)")
+    parser.add_argument("--turns", type=int, default=3, metavar="N", help="how often each is timed (3)")
     parser.add_argument("--jobs", type=int, default=1, metavar="N", help="how many seeds at a time (1)")
     given = parser.parse_args()
     does = speed if given.speed else compare
