@@ -11,7 +11,7 @@ use Rattle.hk_spec_streams.specs.Blocks.{Setting, Block, Asks, blocks, moments}
 use Rattle.hk_spec_matching.specs.Catalogue.{Songs, Rise}
 use Rattle.hk_spec_matching.specs.Matching.{matches}
 use Rattle.hk_spec_settings.specs.Settings.{Rules}
-use Rattle.hk_spec_runs.specs.History.{Reported, query_of}
+use Rattle.hk_spec_runs.specs.History.{Reported}
 use Rattle.hk_spec_runs.specs.Replay.{Listener, lines_at}
 use Rattle.hk_spec_runs.specs.Listening.{Instant, bytes_in, unheard, after, looks_over, versions_over, songs_in, IsLogOf, UsesOf}
 use Rattle.hk_spec_runs.proofs.Logs.{writes_log}
@@ -56,13 +56,13 @@ module _ (past : ℕ → Option Songs) where
   versions-reported (b ∷ bs) (v ∷ vs) same = ap (λ ws. v ∷ ws) (versions-reported bs vs (omega (arith, same)))
 
   pub lists-reported : (bs : List Block) (vs : List ℕ) (n : ℕ) (block : Block) (r : Reported) → slice_get bs n ≡ Some block → slice_get (reported_of past bs vs) n ≡ Some r
-      → r.list ≡ matches (query_of block) (songs_in past r.version)
-  lists-reported [] vs n block r at_block at_line = past_end block (r.list ≡ matches (query_of block) (songs_in past r.version)) at_block
-  lists-reported (b ∷ bs) [] n block r at_block at_line = past_end r (r.list ≡ matches (query_of block) (songs_in past r.version)) at_line
+      → r.list ≡ matches block.query (songs_in past r.version)
+  lists-reported [] vs n block r at_block at_line = past_end block (r.list ≡ matches block.query (songs_in past r.version)) at_block
+  lists-reported (b ∷ bs) [] n block r at_block at_line = past_end r (r.list ≡ matches block.query (songs_in past r.version)) at_line
   lists-reported (b ∷ bs) (v ∷ vs) zero block r at_block at_line =
-      let one : Reported = record { version = v; list = matches (query_of b) (songs_in past v) } in
-      subst (λ (x : Reported). x.list ≡ matches (query_of block) (songs_in past x.version)) (some_of one r at_line)
-      (ap (λ x. matches (query_of x) (songs_in past v)) (some_of b block at_block))
+      let one : Reported = record { version = v; list = matches b.query (songs_in past v) } in
+      subst (λ (x : Reported). x.list ≡ matches block.query (songs_in past x.version)) (some_of one r at_line)
+      (ap (λ x. matches x.query (songs_in past v)) (some_of b block at_block))
   lists-reported (b ∷ bs) (v ∷ vs) (suc n) block r at_block at_line = lists-reported bs vs n block r at_block at_line
 
 -- looks that don't fall end at the last one

@@ -16,7 +16,7 @@ use Rattle.hk_spec_matching.specs.Matching.{matches}
 use Rattle.hk_spec_matching.proofs.Rising.{Rise-split}
 use Rattle.hk_spec_settings.specs.Settings.{Rules}
 use Rattle.hk_spec_lines.specs.Lines.{printed_text}
-use Rattle.hk_spec_runs.specs.History.{Reported, query_of}
+use Rattle.hk_spec_runs.specs.History.{Reported}
 use Rattle.hk_spec_runs.specs.Replay.{Listener, lines_at, report_in}
 use Rattle.hk_spec_runs.specs.Listening.{Instant, bytes_in, unheard, after, looks_over, versions_over, songs_in}
 use Rattle.hk_spec_monitor.specs.Looks.{versions_of_blocks, AreMet, last_version, until_block}
@@ -178,9 +178,9 @@ module _ (rules : Rules) where
             left ∙ ap (λ n. n + 1) sums.as_many ∙ sym (ap length until ∙ right);
         versions = ap (λ ms. versions_of_blocks ms (looks ++ v ∷ [])) moments_are ∙ versions_here one.block later.0 v sums.new looks sums.as_many
             ∙ ap (λ ws. ws ++ v ∷ []) (sums.blocks ∙ sym versions) ∙ ap (λ w. versions_of reported ++ w ∷ []) (sym last);
-        line = ap (λ w. printed_text (reported_line station (length reported, one.block) (record { version = w; list = matches (query_of one.block) (songs_in past w) }))) last
-            ∙ ap (λ n. printed_text (reported_line station (n, one.block) (record { version = v; list = matches (query_of one.block) (songs_in past v) }))) many
-            ∙ ap (λ (at : Songs). printed_text (reported_line station (length bs, one.block) (record { version = v; list = matches (query_of one.block) at }))) songs
+        line = ap (λ w. printed_text (reported_line station (length reported, one.block) (record { version = w; list = matches one.block.query (songs_in past w) }))) last
+            ∙ ap (λ n. printed_text (reported_line station (n, one.block) (record { version = v; list = matches one.block.query (songs_in past v) }))) many
+            ∙ ap (λ (at : Songs). printed_text (reported_line station (length bs, one.block) (record { version = v; list = matches one.block.query at }))) songs
             ∙ sym one.report ∙ is;
         proper = proper;
       } in

@@ -6,7 +6,7 @@ use Rattle.hk_spec_streams.specs.Blocks.{Block, blocks}
 use Rattle.hk_spec_matching.specs.Catalogue.{Songs, Rise}
 use Rattle.hk_spec_matching.specs.Matching.{matches}
 use Rattle.hk_spec_settings.specs.Settings.{Rules}
-use Rattle.hk_spec_runs.specs.History.{Reported, query_of}
+use Rattle.hk_spec_runs.specs.History.{Reported}
 use Rattle.hk_spec_runs.specs.Replay.{Listener, end_of}
 use Rattle.hk_spec_runs.specs.Listening.{Instant, bytes_in, unheard, after, looks_over, versions_over, songs_in, Gives, UsesOf}
 use Rattle.hk_spec_monitor.specs.Looks.{last_version}
@@ -17,7 +17,7 @@ use Rattle.hk_spec_monitor.specs.Fences.{HasMetFences, IsAhead}
 abbrev pub reported_of : (ℕ → Option Songs) → List Block → List ℕ → List Reported
 reported_of past [] vs = []
 reported_of past (block ∷ blocks) [] = []
-reported_of past (block ∷ blocks) (v ∷ vs) = record { version = v; list = matches (query_of block) (songs_in past v) } ∷ reported_of past blocks vs
+reported_of past (block ∷ blocks) (v ∷ vs) = record { version = v; list = matches block.query (songs_in past v) } ∷ reported_of past blocks vs
 
 module _ (rules : Rules) where
   -- the station that took these bytes, each with its version, and whose log never failed
@@ -48,6 +48,6 @@ module _ (rules : Rules) where
   -- That is so since a station was new, over any bytes, where the versions of its looks don't fall.
   abbrev pub AccountSinceStart : Type 0
   AccountSinceStart = (station positions to : ℕ) (instants : List Instant) (text answers : List ℕ) (steps : ℕ) (past : ℕ → Option Songs) (end : End)
-      → 0 < rules.setting.block_size → Gives rules station positions unheard instants text answers steps past → Rise 0 answers to
+      → 0 < rules.setting.block.size → Gives rules station positions unheard instants text answers steps past → Rise 0 answers to
       → UsesOf rules (after rules unheard instants) (bytes_in instants) → ComesTo (after rules unheard instants) end
       → IsAccount station past text (after rules unheard instants) (heard_of instants past end)

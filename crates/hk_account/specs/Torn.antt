@@ -25,7 +25,7 @@ module _ (rules : Rules) where
   -- last look was that of the torn line; that line isn't counted. So it is over any bytes, where the versions of its looks don't fall.
   abbrev pub TornAccountSinceStart : Type 0
   TornAccountSinceStart = (station room to : ℕ) (instants : List Instant) (text : List ℕ) (past : ℕ → Option Songs) (torn : Instant) (line : List ℕ) (steps : ℕ) (behind front missing : List ℕ)
-      → 0 < rules.setting.block_size → rules.setting.analysis ≡ full_analysis → Rise 0 (looks_over rules unheard instants ++ torn.version ∷ []) to
+      → 0 < rules.setting.block.size → rules.setting.analysis ≡ full_analysis → Rise 0 (looks_over rules unheard instants ++ torn.version ∷ []) to
       → IsLogOf rules station (after rules unheard instants) (versions_over rules unheard instants) past text
       → GivesOne rules station room (after rules unheard instants) torn line steps → past torn.version ≡ Some torn.songs
       → line ≡ front ++ missing → 0 < length missing

@@ -8,6 +8,7 @@ use Rattle.std.proofs.lemmas.Nat.{div-add-mod'}
 use Rattle.hk_base.specs.declared.plain.Print.{Print}
 use Rattle.hk_spec_sound.specs.Windows.{windows, window, window_count}
 use Rattle.hk_spec_sound.proofs.GrowingWindows.{windows-append, window_count-more, completes}
+use Rattle.hk_spec_streams.specs.Blocks.{BlockRule}
 use Rattle.hk_block.specs.Ring.{Ring, HasLastPrints, Takes, AddsBlock, PlacesBlock, BLOCK_SIZE, completes_block}
 
 pub both : (a b : Bool) → (a && b) ≡ true → (a ≡ true) × (b ≡ true)
@@ -41,11 +42,14 @@ pub length-windows : {A : Type 0} (size step : ℕ) (xs : List A) → length (wi
 unfolding windows
 length-windows size step xs = length-map-range_with_len (window size step xs) 0 (window_count size step (length xs))
 
+same_hop : (old new : Ring) → new.block ≡ old.block → new.block.hop ≡ old.block.hop
+same_hop old new same = ap (λ (rule : BlockRule). rule.hop) same
+
 -- the ring's test is the windows' test
-same_test : (old new : Ring) (print : Print) (prints : List Print) → new.hop ≡ old.hop → HasLastPrints new (prints ++ print ∷ [])
-    → completes_block new ≡ completes BLOCK_SIZE old.hop (length prints + 1)
+same_test : (old new : Ring) (print : Print) (prints : List Print) → new.block.hop ≡ old.block.hop → HasLastPrints new (prints ++ print ∷ [])
+    → completes_block new ≡ completes BLOCK_SIZE old.block.hop (length prints + 1)
 same_test old new print prints hop has =
-    ap (λ n. nat_le BLOCK_SIZE n && ((n - BLOCK_SIZE) % new.hop == 0)) (has.count ∙ length-append prints (print ∷ []))
+    ap (λ n. nat_le BLOCK_SIZE n && ((n - BLOCK_SIZE) % new.block.hop == 0)) (has.count ∙ length-append prints (print ∷ []))
     ∙ ap (λ h. completes BLOCK_SIZE h (length prints + 1)) hop
 
 added : (hop : ℕ) (prints : List Print) (print : Print) (last : List Print) (b : Bool) → 0 < hop → completes BLOCK_SIZE hop (length prints + 1) ≡ b
@@ -55,23 +59,23 @@ added hop prints print last true some is end = ap (λ w. w ∷ []) (window_at_en
 added hop prints print last false some is end = refl
 
 -- a print adds to the blocks what the ring then holds, where it completes a block
-pub block-added : (old new : Ring) (print : Print) → 0 < old.hop → Takes old print new → AddsBlock old print new
+pub block-added : (old new : Ring) (print : Print) → 0 < old.block.hop → Takes old print new → AddsBlock old print new
 block-added old new print some takes prints has =
     let after : HasLastPrints new (prints ++ print ∷ []) = takes.1 prints has in
-    let test : completes_block new ≡ completes BLOCK_SIZE old.hop (length prints + 1) = same_test old new print prints takes.0 after in
-    ap (λ h. windows BLOCK_SIZE h (prints ++ print ∷ [])) takes.0
-    ∙ windows-append BLOCK_SIZE old.hop prints print some
-    ∙ ap (λ ws. windows BLOCK_SIZE old.hop prints ++ ws) (added old.hop prints print new.last (completes BLOCK_SIZE old.hop (length prints + 1)) some refl after.last)
-    ∙ ap (λ b. windows BLOCK_SIZE old.hop prints ++ cond b (new.last ∷ []) []) (sym test)
+    let test : completes_block new ≡ completes BLOCK_SIZE old.block.hop (length prints + 1) = same_test old new print prints (same_hop old new takes.0) after in
+    ap (λ h. windows BLOCK_SIZE h (prints ++ print ∷ [])) (same_hop old new takes.0)
+    ∙ windows-append BLOCK_SIZE old.block.hop prints print some
+    ∙ ap (λ ws. windows BLOCK_SIZE old.block.hop prints ++ ws) (added old.block.hop prints print new.last (completes BLOCK_SIZE old.block.hop (length prints + 1)) some refl after.last)
+    ∙ ap (λ b. windows BLOCK_SIZE old.block.hop prints ++ cond b (new.last ∷ []) []) (sym test)
 
 -- and that block begins as many hops from the first print as there were blocks
-pub block-placed : (old new : Ring) (print : Print) → 0 < old.hop → Takes old print new → PlacesBlock old print new
+pub block-placed : (old new : Ring) (print : Print) → 0 < old.block.hop → Takes old print new → PlacesBlock old print new
 block-placed old new print some takes prints has is =
     let after : HasLastPrints new (prints ++ print ∷ []) = takes.1 prints has in
-    let test : completes_block new ≡ completes BLOCK_SIZE old.hop (length prints + 1) = same_test old new print prints takes.0 after in
-    let done : completes BLOCK_SIZE old.hop (length prints + 1) ≡ true = sym test ∙ is in
-    let times : window_count BLOCK_SIZE old.hop (length prints) * old.hop ≡ length prints + 1 - BLOCK_SIZE = count_times BLOCK_SIZE old.hop (length prints) some done in
-    let count : length (windows BLOCK_SIZE old.hop prints) ≡ window_count BLOCK_SIZE old.hop (length prints) = length-windows BLOCK_SIZE old.hop prints in
+    let test : completes_block new ≡ completes BLOCK_SIZE old.block.hop (length prints + 1) = same_test old new print prints (same_hop old new takes.0) after in
+    let done : completes BLOCK_SIZE old.block.hop (length prints + 1) ≡ true = sym test ∙ is in
+    let times : window_count BLOCK_SIZE old.block.hop (length prints) * old.block.hop ≡ length prints + 1 - BLOCK_SIZE = count_times BLOCK_SIZE old.block.hop (length prints) some done in
+    let count : length (windows BLOCK_SIZE old.block.hop prints) ≡ window_count BLOCK_SIZE old.block.hop (length prints) = length-windows BLOCK_SIZE old.block.hop prints in
     let long : new.count ≡ length prints + 1 = after.count ∙ length-append prints (print ∷ []) in
-    ap (λ n. n - BLOCK_SIZE) long ∙ sym times ∙ ap (λ n. n * old.hop) (sym count) ∙ ap (λ h. length (windows BLOCK_SIZE old.hop prints) * h) (sym takes.0)
+    ap (λ n. n - BLOCK_SIZE) long ∙ sym times ∙ ap (λ n. n * old.block.hop) (sym count) ∙ ap (λ h. length (windows BLOCK_SIZE old.block.hop prints) * h) (sym (same_hop old new takes.0))
     ∙ omega arith

@@ -1,6 +1,6 @@
 // The prints of the present segment, of which the last 256 are kept.
 ghost use Rattle.std.specs.Prelude.{◌≡◌, ◌≤◌, ◌<◌, ◌+◌, [], IfOk, IsTrue, slice_get, Some};
-ghost use Rattle.hk_block.specs.Ring.{HasLastPrints, Takes, AddsBlock, PlacesBlock, MOST_PRINTS, is_full, first_word, completes_block};
+ghost use Rattle.hk_block.specs.Ring.{HasLastPrints, Takes, AddsBlock, PlacesBlock, BLOCK_SIZE, MOST_PRINTS, is_full, first_word, completes_block};
 
 use circular_buffer::HeapCircularBuffer;
 use hk_base::{NoMemory, Print};
@@ -23,7 +23,7 @@ impl Model for BlockRing {
 
     ghost Value = { Ring };
 
-    ghost view = { λ r. record { last = r.last.items; count = r.count; hop = r.hop } };
+    ghost view = { λ r. record { last = r.last.items; count = r.count; block = record { size = BLOCK_SIZE; hop = r.hop } } };
 
     ghost invariant = { λ r. (r.last.capacity ≡ BLOCK_SIZE) × (length r.last.items ≡ min BLOCK_SIZE r.count) × (1 ≤ r.hop) × (r.hop ≤ 256) };
 }
@@ -34,7 +34,7 @@ impl BlockRing {
         requires some { 1 ≤ hop }
         requires most { hop ≤ 256 }
         ensures empty { IfOk result (λ ring. HasLastPrints ring []) }
-        ensures hop { IfOk result (λ ring. ring.hop ≡ hop) }
+        ensures block { IfOk result (λ ring. ring.block ≡ record { size = BLOCK_SIZE; hop = hop }) }
     {
         match HeapCircularBuffer::with_capacity(alloc, BLOCK_SIZE) {
             Ok(last) => Ok(BlockRing {
@@ -104,7 +104,7 @@ impl BlockRing {
     /// Begins a new segment: no print was taken. The hop stays.
     pub fn reset(&mut self)
         ensures empty { HasLastPrints self.new [] }
-        ensures hop { self.new.hop ≡ self.old.hop }
+        ensures block { self.new.block ≡ self.old.block }
     {
         self.last.clear();
         self.count = 0;

@@ -114,7 +114,7 @@ pub reasons : (rules : Rules) (roll : Register) (songs : Songs) (id words : ℕ)
 reasons rules roll songs id words are counts =
     let count : length roll.lengths ≡ length songs = ap length counts ∙ length-map {B = ℕ × ℕ} songs (λ entry. (entry.0, length entry.1.words)) in
     let sum : words_in roll.lengths ≡ positions_of songs = ap words_in counts ∙ sym (words-counted songs) in
-    let short : nat_lt words 256 ≡ nat_lt words rules.setting.block_size = ap (nat_lt words) (sym are.block_size) in
+    let short : nat_lt words 256 ≡ nat_lt words rules.setting.block.size = ap (nat_lt words) (sym are.block_size) in
     let songs_full : nat_le roll.limits.songs (length roll.lengths) ≡ nat_le rules.limits.songs (length songs) =
     ap (nat_le roll.limits.songs) count ∙ ap (λ (l : Limits). nat_le l.songs (length songs)) (sym are.limits) in
     let positions_full : nat_lt (roll.limits.positions - words_in roll.lengths) words ≡ nat_lt (rules.limits.positions - positions_of songs) words =
@@ -122,8 +122,8 @@ reasons rules roll songs id words are counts =
     without_numbers (has_id roll.lengths id) (nat_lt words 256) (nat_le roll.limits.songs (length roll.lengths)) (nat_lt (free roll.limits roll.lengths) words) id words roll.limits.songs (free roll.limits roll.lengths)
     ∙ ap (λ a. first a (nat_lt words 256) (nat_le roll.limits.songs (length roll.lengths)) (nat_lt (free roll.limits roll.lengths) words)) (there roll songs id counts)
     ∙ ap (λ b. first (has_song songs id) b (nat_le roll.limits.songs (length roll.lengths)) (nat_lt (free roll.limits roll.lengths) words)) short
-    ∙ ap (λ c. first (has_song songs id) (nat_lt words rules.setting.block_size) c (nat_lt (free roll.limits roll.lengths) words)) songs_full
-    ∙ ap (first (has_song songs id) (nat_lt words rules.setting.block_size) (nat_le rules.limits.songs (length songs))) positions_full
+    ∙ ap (λ c. first (has_song songs id) (nat_lt words rules.setting.block.size) c (nat_lt (free roll.limits roll.lengths) words)) songs_full
+    ∙ ap (first (has_song songs id) (nat_lt words rules.setting.block.size) (nat_le rules.limits.songs (length songs))) positions_full
 
 -- an edit that no check refuses
 pub passes : (refused : Option Refused) → answered refused ≡ Ok tt → refused ≡ None

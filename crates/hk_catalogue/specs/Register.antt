@@ -44,5 +44,5 @@ Counts roll songs = roll.lengths ≡ lengths_of songs
 
 -- the rules of a run that has the roll's limits
 pub record AreRulesOf (rules : Rules) (roll : Register) : Type 0 where
-  pub block_size : rules.setting.block_size ≡ 256
+  pub block_size : rules.setting.block.size ≡ 256
   pub limits : rules.limits ≡ roll.limits

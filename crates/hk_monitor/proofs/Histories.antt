@@ -1,6 +1,5 @@
 -- Stations in any order make one legal history.
-use Rattle.std.proofs.Common.{◌≡◌, ◌≤◌, ◌<◌, ℕ, zero, suc, Some, List, [], ◌∷◌, ◌++◌, map, length, slice_get, slice_index_or, refl, sym, ◌∙◌, ap, subst, arith}
-use Rattle.std.specs.List.{All}
+use Rattle.std.proofs.Common.{◌≡◌, ◌<◌, ℕ, zero, suc, Some, List, [], ◌∷◌, map, length, slice_get, refl, ap, subst, arith}
 use Rattle.hk_spec_streams.specs.Blocks.{Block}
 use Rattle.hk_spec_matching.specs.Catalogue.{Songs, Journal, version}
 use Rattle.hk_spec_matching.specs.Matching.{matches}
@@ -8,9 +7,9 @@ use Rattle.hk_base.specs.declared.plain.Head.{Head}
 use Rattle.hk_base.specs.declared.plain.Match.{Match}
 use Rattle.hk_spec_lines.specs.Lines.{printed_text, line}
 use Rattle.hk_spec_settings.specs.Settings.{Rules}
-use Rattle.hk_spec_runs.specs.History.{Reported, query_of, history, IsLegal}
+use Rattle.hk_spec_runs.specs.History.{Reported, history, IsLegal}
 use Rattle.hk_spec_monitor.specs.Looks.{last_version}
-use Rattle.hk_spec_monitor.specs.Run.{Heard, Obeyed, HasLines, IsTorn, songs_seen, stations_of, blocks_heard, reported_line, IsOneHistory}
+use Rattle.hk_spec_monitor.specs.Run.{Heard, Obeyed, HasLines, IsTorn, songs_seen, stations_of, blocks_heard, reported_line}
 use Rattle.hk_spec_monitor.proofs.Legal.{lines_are_legal, some_of}
 use Rattle.hk_spec_monitor.proofs.Logs.{past_end}
 use Rattle.hk_monitor.specs.Crew.{run_of}
@@ -37,12 +36,12 @@ renumbered rules songs station other h lines = record {
       let t : IsTorn rules songs station h = lines.torn is in
       record {
         block = t.block;
-        missing = printed_text (reported_line other (length h.reported, t.block) (record { version = last_version h.looks; list = matches (query_of t.block) (songs (last_version h.looks)) }));
+        missing = printed_text (reported_line other (length h.reported, t.block) (record { version = last_version h.looks; list = matches t.block.query (songs (last_version h.looks)) }));
         next = t.next;
         looks = t.looks;
         versions = t.versions;
         line = refl;
-        proper = line_is_some (record { station = other; block = length h.reported; segment = t.block.segment; first = t.block.first; version = last_version h.looks }) (matches (query_of t.block) (songs (last_version h.looks)));
+        proper = line_is_some (record { station = other; block = length h.reported; segment = t.block.segment; first = t.block.first; version = last_version h.looks }) (matches t.block.query (songs (last_version h.looks)));
       };
 }
 

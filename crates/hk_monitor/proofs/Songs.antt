@@ -1,15 +1,15 @@
 -- The songs that the lines of a station list the matches of.
-use Rattle.std.proofs.Common.{◌≡◌, ◌≤◌, ℕ, zero, suc, ◌+◌, Bool, true, false, cond, Option, Some, None, List, [], ◌∷◌, ◌++◌, map, length, slice_get, refl, sym, ◌∙◌, ap, subst, arith, inl, inr}
+use Rattle.std.proofs.Common.{◌≡◌, ◌≤◌, ℕ, zero, suc, ◌+◌, Bool, true, false, cond, Option, Some, List, [], ◌∷◌, ◌++◌, length, slice_get, refl, sym, ◌∙◌, ap, subst, arith, inl, inr}
 use Rattle.std.specs.Prelude.{unwrap_or}
 use Rattle.std.proofs.lemmas.Bool.Decides.{leb_tells}
 use mathlib.Core.List.{IsPrefix}
-use Rattle.hk_spec_streams.specs.Blocks.{Block, Moment, Full, Asks}
+use Rattle.hk_spec_streams.specs.Blocks.{Moment, Full, Asks}
 use Rattle.hk_spec_matching.specs.Catalogue.{Songs, Limits, Journal, Rise, version}
 use Rattle.hk_spec_matching.specs.Matching.{matches}
 use Rattle.hk_spec_matching.proofs.Rising.{Rise-le}
 use Rattle.hk_spec_lines.specs.Lines.{printed_text}
 use Rattle.hk_spec_settings.specs.Settings.{Rules}
-use Rattle.hk_spec_runs.specs.History.{Reported, query_of}
+use Rattle.hk_spec_runs.specs.History.{Reported}
 use Rattle.hk_spec_runs.specs.Listening.{songs_in}
 use Rattle.hk_spec_monitor.specs.Looks.{versions_of_blocks, last_version}
 use Rattle.hk_spec_monitor.specs.Run.{Heard, HasLines, IsTorn, is_torn, songs_seen, moments_heard, versions_of, reported_line}
@@ -84,7 +84,7 @@ pub other_songs : (rules : Rules) (songs others : ℕ → Songs) (station : ℕ)
     → HasLines rules songs station h → HasLines rules others station h
 other_songs rules songs others station h same lines = record {
   lists = λ n block r at_block at_line. lines.lists n block r at_block at_line
-      ∙ ap (matches (query_of block)) (same r.version (reported_low rules songs station h lines (is_torn h.end) refl n r at_line));
+      ∙ ap (matches block.query) (same r.version (reported_low rules songs station h lines (is_torn h.end) refl n r at_line));
   never_fall = lines.never_fall;
   all = lines.all;
   whole = lines.whole;
@@ -99,7 +99,7 @@ other_songs rules songs others station h same lines = record {
         next = t.next;
         looks = t.looks;
         versions = t.versions;
-        line = ap (λ (s : Songs). printed_text (reported_line station (length h.reported, t.block) (record { version = last_version h.looks; list = matches (query_of t.block) s }))) (sym last) ∙ t.line;
+        line = ap (λ (s : Songs). printed_text (reported_line station (length h.reported, t.block) (record { version = last_version h.looks; list = matches t.block.query s }))) (sym last) ∙ t.line;
         proper = t.proper;
       };
 }

@@ -41,7 +41,7 @@ rows : ℕ → Limits → Songs → ℕ → Bool → Bool → Option Reason
 rows block limits songs id short full = first_that_holds ((has_song songs id, Duplicate) ∷ (short, Short) ∷ (nat_le limits.songs (length songs), SongsFull) ∷ (full, PositionsFull) ∷ [])
 
 rows_are : (rules : Rules) (songs : Songs) (id words : ℕ) → first_that_holds (add_refusals rules songs id words)
-    ≡ rows rules.setting.block_size rules.limits songs id (nat_lt words rules.setting.block_size) (nat_lt (rules.limits.positions - positions_of songs) words)
+    ≡ rows rules.setting.block.size rules.limits songs id (nat_lt words rules.setting.block.size) (nat_lt (rules.limits.positions - positions_of songs) words)
 unfolding rows
 rows_are rules songs id words = refl
 
@@ -50,12 +50,12 @@ count_tests : (rules : Rules) (songs : Songs) (id words : ℕ) → IsFixed rules
 count_tests rules songs id words fixed most = elim (cases_lt words (2 ^ 64 - 1)) [
   | inl few ↦ ap (λ n. first_that_holds (add_refusals rules songs id n)) (let same : min words (2 ^ 64 - 1) ≡ words = omega (arith, few) in same)
   | inr many ↦
-      let block : rules.setting.block_size ≡ 256 = fixed.block_size in
+      let block : rules.setting.block.size ≡ 256 = fixed.block_size in
       let left : rules.limits.positions - positions_of songs ≤ rules.limits.positions = omega arith in
       rows_are rules songs id (min words (2 ^ 64 - 1))
-      ∙ ap (λ t. rows rules.setting.block_size rules.limits songs id t (nat_lt (rules.limits.positions - positions_of songs) (min words (2 ^ 64 - 1))))
-      (le-ltb (min words (2 ^ 64 - 1)) rules.setting.block_size (omega (arith, block, many)) ∙ sym (le-ltb words rules.setting.block_size (omega (arith, block, many))))
-      ∙ ap (rows rules.setting.block_size rules.limits songs id (nat_lt words rules.setting.block_size))
+      ∙ ap (λ t. rows rules.setting.block.size rules.limits songs id t (nat_lt (rules.limits.positions - positions_of songs) (min words (2 ^ 64 - 1))))
+      (le-ltb (min words (2 ^ 64 - 1)) rules.setting.block.size (omega (arith, block, many)) ∙ sym (le-ltb words rules.setting.block.size (omega (arith, block, many))))
+      ∙ ap (rows rules.setting.block.size rules.limits songs id (nat_lt words rules.setting.block.size))
       (lt-ltb (rules.limits.positions - positions_of songs) (min words (2 ^ 64 - 1)) (omega (arith, left, most, many))
       ∙ sym (lt-ltb (rules.limits.positions - positions_of songs) words (omega (arith, left, most, many))))
       ∙ sym (rows_are rules songs id words)

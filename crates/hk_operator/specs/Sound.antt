@@ -19,7 +19,7 @@ use Rattle.hk_operator.specs.declared.recorder.Recorder.{Recorder}
 
 -- the rules that are built in
 pub record IsFixed (rules : Rules) : Type 0 where
-  pub block_size : rules.setting.block_size ≡ 256
+  pub block_size : rules.setting.block.size ≡ 256
   pub errors : rules.errors ≡ MOST_ERRORS
   pub analysis : rules.setting.analysis ≡ full_analysis
 

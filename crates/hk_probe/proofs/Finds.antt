@@ -12,10 +12,10 @@ use Rattle.hk_base.specs.declared.plain.Print.{Print}
 use Rattle.hk_base.specs.declared.plain.Match.{Match}
 use Rattle.hk_spec_sound.specs.Windows.{window, window_count}
 use Rattle.hk_spec_matching.specs.Catalogue.{Song, Songs}
-use Rattle.hk_spec_matching.specs.Matching.{Query, is_hit, match_at, matches, matches_of_song}
+use Rattle.hk_spec_matching.specs.Matching.{Query, Flips, flips_of, may_flip, is_hit, match_at, matches, matches_of_song}
 use Rattle.hk_spec_matching.specs.Occurrences.{Occurrence, occurrences, occurrences_in, occurrences_of}
 use Rattle.hk_spec_matching.specs.Cost.{subsets, looked_up}
-use Rattle.hk_probe.specs.Comparison.{first_hit, first_match_at}
+use Rattle.hk_probe.specs.Comparison.{subsets_for, first_hit, first_match_at}
 use Rattle.hk_probe.specs.Search.{fits, found, found_of, found_by, found_in, HaveSame}
 use Rattle.hk_probe.proofs.Sums.{of_option, sum_by-same, sum_by-of_map, sum_by-of_flat_map, sum_by-of_filter, sum_by-of_filter_map, sum_by-exchanged, sum_by-shifted, sum_by-joined, sum_by-nowhere, sum_by-at_one}
 use Rattle.hk_probe.proofs.Starts.{all_starts}
@@ -31,29 +31,30 @@ either true n = refl
 either false n = refl
 
 -- a word is looked up once for a print that it hits, and else not at all
-looked_up_once : (print : Print) (w x : ℕ)
-    → sum_by (λ s. cond (w == bit_xor print.word s) x 0) (subsets print.mask) ≡ cond (is_hit (print, w)) x 0
+looked_up_once : (query : Query) (print : Print) (w x : ℕ)
+    → sum_by (λ s. cond (w == bit_xor print.word s) x 0) (subsets_for query print) ≡ cond (is_hit query (print, w)) x 0
 unfolding subsets
-looked_up_once print w x =
+looked_up_once query print w x =
+    let flips : Flips = flips_of query print in
     let d = bit_xor print.word w in
-    let term : ℕ → ℕ = λ s. cond (bit_and s print.mask == s) (cond (w == bit_xor print.word s) x 0) 0 in
+    let term : ℕ → ℕ = λ s. cond (may_flip flips s) (cond (w == bit_xor print.word s) x 0) 0 in
     let others : (s : ℕ) → (s ≡ d → ⊥) → term s ≡ 0 = λ s other.
-    ap (λ b. cond (bit_and s print.mask == s) (cond b x 0) 0) (ne_eqb w (bit_xor print.word s) (λ is. other (sym (ap (bit_xor print.word) is ∙ flipped_twice print.word s))))
-    ∙ either (bit_and s print.mask == s) 0 in
-    let here : term d ≡ cond (is_hit (print, w)) x 0 =
-    ap (λ b. cond (bit_and d print.mask == d) (cond b x 0) 0) (eq-eqb w (bit_xor print.word d) (sym (flipped_twice print.word w))) in
-    sum_by-of_filter (λ s. cond (w == bit_xor print.word s) x 0) (λ s. bit_and s print.mask == s) (range_with_len 0 (print.mask + 1))
-    ∙ elim (leb_tells d print.mask) [
-      | inl low ↦ sum_by-at_one term 0 (print.mask + 1) d (omega arith) (omega (arith, low.1)) others ∙ here
+    ap (λ b. cond (may_flip flips s) (cond b x 0) 0) (ne_eqb w (bit_xor print.word s) (λ is. other (sym (ap (bit_xor print.word) is ∙ flipped_twice print.word s))))
+    ∙ either (may_flip flips s) 0 in
+    let here : term d ≡ cond (is_hit query (print, w)) x 0 =
+    ap (λ b. cond (may_flip flips d) (cond b x 0) 0) (eq-eqb w (bit_xor print.word d) (sym (flipped_twice print.word w))) in
+    sum_by-of_filter (λ s. cond (w == bit_xor print.word s) x 0) (may_flip flips) (range_with_len 0 (flips.mask + 1))
+    ∙ elim (leb_tells d flips.mask) [
+      | inl low ↦ sum_by-at_one term 0 (flips.mask + 1) d (omega arith) (omega (arith, low.1)) others ∙ here
       | inr high ↦
-          let no_hit : is_hit (print, w) ≡ false = ne_eqb (bit_and d print.mask) d (λ is. omega (arith, and_le_r d print.mask, high.1)) in
-          sum_by-nowhere term 0 (print.mask + 1) (λ i above below. others i (λ is. omega (arith, high.1)))
+          let no_hit : is_hit query (print, w) ≡ false = ne_eqb (bit_and d flips.mask) d (λ is. omega (arith, and_le_r d flips.mask, high.1)) in
+          sum_by-nowhere term 0 (flips.mask + 1) (λ i above below. others i (λ is. omega (arith, high.1)))
           ∙ sym (ap (λ b. cond b x 0) no_hit)
     ]
 
 -- what an occurrence adds to a sum for a print, where it is looked up
 abbrev added : (Match → ℕ) → Query → ℕ × Print → Occurrence → ℕ
-added f query print o = cond (is_hit (print.1, o.word)) (of_option f (found query print.0 o.song o.position)) 0
+added f query print o = cond (is_hit query (print.1, o.word)) (of_option f (found query print.0 o.song o.position)) 0
 
 pub of_word : (f : Match → ℕ) (query : Query) (songs : Songs) (j w : ℕ)
     → sum_by f (found_of query songs j w) ≡ sum_by (λ o. cond (o.word == w) (of_option f (found query j o.song o.position)) 0) (occurrences songs)
@@ -68,11 +69,11 @@ unfolding found_by
 of_print f query songs print =
     let word : ℕ → ℕ = bit_xor print.1.word in
     let term : ℕ → Occurrence → ℕ = λ s o. cond (o.word == word s) (of_option f (found query print.0 o.song o.position)) 0 in
-    sum_by-of_flat_map f (found_of query songs print.0) (looked_up print.1)
-    ∙ sum_by-of_map (λ w. sum_by f (found_of query songs print.0 w)) word (subsets print.1.mask)
-    ∙ sum_by-same (λ s. sum_by f (found_of query songs print.0 (word s))) (λ s. sum_by (term s) (occurrences songs)) (λ s. of_word f query songs print.0 (word s)) (subsets print.1.mask)
-    ∙ sum_by-exchanged term (subsets print.1.mask) (occurrences songs)
-    ∙ sum_by-same (λ o. sum_by (λ s. term s o) (subsets print.1.mask)) (added f query print) (λ o. looked_up_once print.1 o.word (of_option f (found query print.0 o.song o.position))) (occurrences songs)
+    sum_by-of_flat_map f (found_of query songs print.0) (looked_up query print.1)
+    ∙ sum_by-of_map (λ w. sum_by f (found_of query songs print.0 w)) word (subsets_for query print.1)
+    ∙ sum_by-same (λ s. sum_by f (found_of query songs print.0 (word s))) (λ s. sum_by (term s) (occurrences songs)) (λ s. of_word f query songs print.0 (word s)) (subsets_for query print.1)
+    ∙ sum_by-exchanged term (subsets_for query print.1) (occurrences songs)
+    ∙ sum_by-same (λ o. sum_by (λ s. term s o) (subsets_for query print.1)) (added f query print) (λ o. looked_up_once query print.1 o.word (of_option f (found query print.0 o.song o.position))) (occurrences songs)
 
 -- ---- the positions of a song for one print
 
@@ -94,20 +95,21 @@ found-inside query j song p q is within =
     ∙ ap (λ s. first_match_at query j song (s, window (length query.prints) 1 song.1.words s)) start
 
 -- the print that hits first hits
-first_hits : (prints : List Print) (words : List ℕ) (q j : ℕ) (d : Print) → j < length prints → q + length prints ≤ length words
-    → first_hit prints (window (length prints) 1 words q) ≡ j → is_hit (get_or prints j d, get_or words (j + q) 0) ≡ true
-first_hits prints words q j d low within first =
+first_hits : (query : Query) (words : List ℕ) (q j : ℕ) (d : Print) → j < length query.prints → q + length query.prints ≤ length words
+    → first_hit query (window (length query.prints) 1 words q) ≡ j → is_hit query (get_or query.prints j d, get_or words (j + q) 0) ≡ true
+first_hits query words q j d low within first =
+    let prints = query.prints in
     let size = length prints in
     let here : List ℕ = window size 1 words q in
     let room : length here ≡ size = omega (arith, length-take size (drop (q * 1) words), length-drop (q * 1) words) in
     let pairs = zip prints here in
-    let inside : position_or_len is_hit pairs < length pairs = omega (arith, first, length-zip prints here) in
+    let inside : position_or_len (is_hit query) pairs < length pairs = omega (arith, first, length-zip prints here) in
     let pair : get_or pairs j (d, 0) ≡ (get_or prints j d, get_or words (j + q) 0) =
     get_or-zip prints here j (d, 0) low (omega (arith, room))
     ∙ ap (λ w. (get_or prints j d, w)) (get_or-take size (drop (q * 1) words) j 0 low ∙ get_or-drop (q * 1) words j 0 ∙ ap (λ i. get_or words i 0) (omega arith)) in
-    ap is_hit (sym pair)
-    ∙ ap (λ i. is_hit (get_or pairs i (d, 0))) (sym first)
-    ∙ passes_at_first is_hit pairs (d, 0) inside
+    ap (is_hit query) (sym pair)
+    ∙ ap (λ i. is_hit query (get_or pairs i (d, 0))) (sym first)
+    ∙ passes_at_first (is_hit query) pairs (d, 0) inside
 
 -- what a start of a song adds to a sum
 abbrev of_start : (Match → ℕ) → Query → ℕ × Song → ℕ → ℕ
@@ -116,7 +118,7 @@ of_start f query song q = of_option f (match_at query song (q, window (length qu
 -- what a start adds for print j: all, where print j is the first that hits there
 abbrev at_first : (Match → ℕ) → Query → ℕ × Song → ℕ → ℕ → ℕ
 at_first f query song j q =
-    cond (first_hit query.prints (window (length query.prints) 1 song.1.words q) == j) (of_start f query song q) 0
+    cond (first_hit query (window (length query.prints) 1 song.1.words q) == j) (of_start f query song q) 0
 
 -- ---- terms by their numbers
 
@@ -177,20 +179,20 @@ for_print f query song j d low =
     ∙ sum_by-same (λ i. added f query (j, print) (record { song = song; position = 0 + i; word = get_or words i 0 })) term
     (λ i. ap (λ n. added f query (j, print) (record { song = song; position = n; word = get_or words i 0 })) (zero-add i)) (range_with_len 0 (length words)) in
     let outside : (p : ℕ) → fits query j song p ≡ false → term p ≡ 0 = λ p no.
-    ap (λ o. cond (is_hit (print, get_or words p 0)) (of_option f o) 0) (found-outside query j song p no) ∙ either (is_hit (print, get_or words p 0)) 0 in
+    ap (λ o. cond (is_hit query (print, get_or words p 0)) (of_option f o) 0) (found-outside query j song p no) ∙ either (is_hit query (print, get_or words p 0)) 0 in
     let inside : (q : ℕ) → q + size ≤ length words → term (j + q) ≡ start q = λ q within.
     let here : List ℕ = window size 1 words q in
     let word = get_or words (j + q) 0 in
-    ap (λ o. cond (is_hit (print, word)) (of_option f o) 0) (found-inside query j song (j + q) q refl within)
-    ∙ elim (cases_eq (first_hit query.prints here) j) as (λ _. cond (is_hit (print, word)) (of_option f (first_match_at query j song (q, here))) 0 ≡ start q) [
+    ap (λ o. cond (is_hit query (print, word)) (of_option f o) 0) (found-inside query j song (j + q) q refl within)
+    ∙ elim (cases_eq (first_hit query here) j) as (λ _. cond (is_hit query (print, word)) (of_option f (first_match_at query j song (q, here))) 0 ≡ start q) [
       | inl first ↦
-          ap (λ o. cond (is_hit (print, word)) (of_option f o) 0) (first_match-is query j song (q, here) first)
-          ∙ ap (λ b. cond b (of_start f query song q) 0) (first_hits query.prints words q j d low within first)
-          ∙ sym (ap (λ b. cond b (of_start f query song q) 0) (eq-eqb (first_hit query.prints here) j first))
+          ap (λ o. cond (is_hit query (print, word)) (of_option f o) 0) (first_match-is query j song (q, here) first)
+          ∙ ap (λ b. cond b (of_start f query song q) 0) (first_hits query words q j d low within first)
+          ∙ sym (ap (λ b. cond b (of_start f query song q) 0) (eq-eqb (first_hit query here) j first))
       | inr other ↦
-          ap (λ o. cond (is_hit (print, word)) (of_option f o) 0) (first_match-none query j song (q, here) other)
-          ∙ either (is_hit (print, word)) 0
-          ∙ sym (ap (λ b. cond b (of_start f query song q) 0) (ne_eqb (first_hit query.prints here) j other))
+          ap (λ o. cond (is_hit query (print, word)) (of_option f o) 0) (first_match-none query j song (q, here) other)
+          ∙ either (is_hit query (print, word)) 0
+          ∙ sym (ap (λ b. cond b (of_start f query song q) 0) (ne_eqb (first_hit query here) j other))
     ] in
     listed ∙ elim (leb_tells size (length words)) [
       | inl long ↦
@@ -220,14 +222,14 @@ found_once : (f : Match → ℕ) (query : Query) (song : ℕ × Song) (q : ℕ)
 found_once f query song q =
     let size = length query.prints in
     let here : List ℕ = window size 1 song.1.words q in
-    let first = first_hit query.prints here in
+    let first = first_hit query here in
     let all = of_start f query song q in
     let term : ℕ → ℕ = λ j. at_first f query song j q in
     let others : (j : ℕ) → (first ≡ j → ⊥) → term j ≡ 0 = λ j other. ap (λ b. cond b all 0) (ne_eqb first j other) in
     elim (cases_lt first size) as (λ _. sum_by term (range_with_len 0 size) ≡ all) [
       | inl low ↦ sum_by-at_one term 0 size first (omega arith) (omega arith) (λ j other. others j (λ is. other (sym is))) ∙ ap (λ b. cond b all 0) (eq-eqb first first refl)
       | inr past ↦
-          let nothing : match_at query song (q, here) ≡ None = match-no_hit query song (q, here) (none_hits query.prints here (omega (arith, length-zip query.prints here))) in
+          let nothing : match_at query song (q, here) ≡ None = match-no_hit query song (q, here) (none_hits query here (omega (arith, length-zip query.prints here))) in
           sum_by-nowhere term 0 size (λ j above below. others j (λ is. omega arith)) ∙ sym (ap (of_option f) nothing)
     ]
 

@@ -156,7 +156,7 @@ match_is : (query : Query) (song : ℕ × Song) (start : ℕ × List ℕ)
 unfolding match_at
 match_is query song start =
     let some : Option Match = Some (record { id = song.0; start = start.0; errors = errors_of query.prints start.1 }) in
-    elim (list_any is_hit (zip query.prints start.1) && nat_le (errors_of query.prints start.1) song.1.limit) as (λ b. (cond b some None ≡ None) ⊎ (cond b some None ≡ some)) [
+    elim (list_any (is_hit query) (zip query.prints start.1) && nat_le (errors_of query.prints start.1) song.1.limit) as (λ b. (cond b some None ≡ None) ⊎ (cond b some None ≡ some)) [
       | true ↦ inr refl
       | false ↦ inl refl
     ]

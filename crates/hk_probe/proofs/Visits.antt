@@ -17,7 +17,7 @@ use Rattle.hk_spec_sound.specs.Windows.{window}
 use Rattle.hk_spec_matching.specs.Catalogue.{Song, Songs, positions_of}
 use Rattle.hk_spec_matching.specs.Matching.{Query, matches}
 use Rattle.hk_spec_matching.specs.Buckets.{bucket_of}
-use Rattle.hk_spec_matching.specs.Cost.{all_words, subsets, looked_up, cost}
+use Rattle.hk_spec_matching.specs.Cost.{all_words, looked_up, cost}
 use Rattle.hk_spec_matching.specs.Occurrences.{Occurrence, occurrences, occurrences_in, occurrences_of}
 use Rattle.hk_table.specs.Store.{Store, SongWithId, song_at}
 use Rattle.hk_table.specs.Index.{ArePlaces, index_of}
@@ -26,7 +26,7 @@ use Rattle.hk_block.specs.Room.{AreSorted}
 use Rattle.hk_catalogue.specs.Entries.{AreRising}
 use Rattle.hk_catalogue.specs.Shelves.{Shelves, entry_of, song_of, songs_of}
 use Rattle.hk_catalogue.specs.CatalogueInside.{IsShelved}
-use Rattle.hk_probe.specs.Comparison.{first_match_at}
+use Rattle.hk_probe.specs.Comparison.{subsets_for, first_match_at}
 use Rattle.hk_probe.specs.Search.{found, found_at, found_of, found_by, found_in, nodes_of, nodes_by, numbered, HaveSame}
 use Rattle.hk_probe.proofs.Sums.{of_option, sum_by-same, sum_by-of_map, sum_by-of_flat_map, sum_by-of_filter, sum_by-of_filter_map}
 use Rattle.hk_probe.proofs.Places.{of_places}
@@ -191,13 +191,13 @@ piece_fits old piece rest first all room same fits =
 
 -- what a print gives, by the subsets of its mask
 pub by_subsets : (query : Query) (songs : Songs) (print : ℕ × Print)
-    → flat_map (λ s. found_of query songs print.0 (bit_xor print.1.word s)) (subsets print.1.mask) ≡ found_by query songs print
+    → flat_map (λ s. found_of query songs print.0 (bit_xor print.1.word s)) (subsets_for query print.1) ≡ found_by query songs print
 unfolding found_by
-by_subsets query songs print = sym (flat_map-map (found_of query songs print.0) (bit_xor print.1.word) (subsets print.1.mask))
+by_subsets query songs print = sym (flat_map-map (found_of query songs print.0) (bit_xor print.1.word) (subsets_for query print.1))
 
 pub nodes_by_subsets : (positions : ℕ) (query : Query) (songs : Songs) (print : Print)
-    → nodes_by positions query songs print ≡ sum_by (λ s. nodes_of positions songs (bit_xor print.word s)) (subsets print.mask)
-nodes_by_subsets positions query songs print = sum_by-of_map (nodes_of positions songs) (bit_xor print.word) (subsets print.mask)
+    → nodes_by positions query songs print ≡ sum_by (λ s. nodes_of positions songs (bit_xor print.word s)) (subsets_for query print)
+nodes_by_subsets positions query songs print = sum_by-of_map (nodes_of positions songs) (bit_xor print.word) (subsets_for query print)
 
 -- ---- one print after another
 
@@ -264,7 +264,7 @@ all_matches query songs put ordered n whole rising before same up =
 -- the nodes of all prints are the cost
 pub nodes_are_cost : (positions : ℕ) (query : Query) (songs : Songs) → sum_by (nodes_by positions query songs) query.prints ≡ cost positions query songs
 unfolding cost
-nodes_are_cost positions query songs = sym (sum_by-of_flat_map (nodes_of positions songs) looked_up query.prints)
+nodes_are_cost positions query songs = sym (sum_by-of_flat_map (nodes_of positions songs) (looked_up query) query.prints)
 
 no_songs : (songs : Songs) → length songs ≡ 0 → songs ≡ []
 no_songs [] none = refl

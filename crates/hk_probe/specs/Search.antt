@@ -9,11 +9,11 @@ use Rattle.hk_spec_matching.specs.Catalogue.{Song, Songs}
 use Rattle.hk_spec_matching.specs.Matching.{Query}
 use Rattle.hk_spec_matching.specs.Occurrences.{occurrences_of}
 use Rattle.hk_spec_matching.specs.Buckets.{bucket_of}
-use Rattle.hk_spec_matching.specs.Cost.{all_words}
+use Rattle.hk_spec_matching.specs.Cost.{all_words, looked_up}
 use Rattle.hk_table.specs.Store.{Store, song_at}
 use Rattle.hk_table.specs.declared.place.Place.{Place}
 use Rattle.hk_catalogue.specs.Shelves.{entry_of, song_of}
-use Rattle.hk_probe.specs.Comparison.{words_for, first_match_at}
+use Rattle.hk_probe.specs.Comparison.{first_match_at}
 
 -- the song in a slot, with its id
 abbrev pub entry_at : Store → ℕ → ℕ × Song
@@ -40,7 +40,7 @@ found_of query songs j word = filter_map (λ o. found query j o.song o.position)
 
 -- what a print gives
 unfoldable pub found_by : Query → Songs → ℕ × Print → List Match
-found_by query songs print = flat_map (found_of query songs print.0) (words_for query print.1)
+found_by query songs print = flat_map (found_of query songs print.0) (looked_up query print.1)
 
 -- what all prints give
 unfoldable pub found_in : Query → Songs → List Match
@@ -60,4 +60,4 @@ nodes_of positions songs word = count_by (λ x. bucket_of positions x == bucket_
 
 -- how many stand in the buckets of the words that are looked up for a print
 abbrev pub nodes_by : ℕ → Query → Songs → Print → ℕ
-nodes_by positions query songs print = sum_by (nodes_of positions songs) (words_for query print)
+nodes_by positions query songs print = sum_by (nodes_of positions songs) (looked_up query print)

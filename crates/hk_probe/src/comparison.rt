@@ -1,6 +1,5 @@
 // Prints beside as many words of a song.
-ghost use Rattle.std.specs.Prelude.{◌≡◌, ◌≤◌, ◌<◌, zip, IsTrue};
-ghost use Rattle.std.specs.List.{position_or_len};
+ghost use Rattle.std.specs.Prelude.{◌≡◌, ◌≤◌, ◌<◌, IsTrue};
 ghost use Rattle.hk_spec_matching.specs.Matching.{is_hit, words_of};
 ghost use Rattle.hk_block.specs.Ring.{is_full, query_of};
 
@@ -23,7 +22,7 @@ pub struct Block {
 }
 
 impl Block {
-    ghost use Rattle.hk_probe.specs.Comparison.{query_in, subsets_for, IsMatchAt, IsFirstMatchAt, match_within};
+    ghost use Rattle.hk_probe.specs.Comparison.{query_in, subsets_for, first_hit, IsMatchAt, IsFirstMatchAt, match_within};
 
     /// What is looked up of a ring.
     pub fn of(ring: &BlockRing) -> Block
@@ -33,7 +32,7 @@ impl Block {
         Block::new(ring.prints())
     }
 
-    /// The subsets of a print's mask with which its word is looked up.
+    /// The bits that are flipped together where one of its prints is looked up.
     pub fn subsets(&self, print: Print) -> Submasks
         ensures { result ≡ subsets_for (query_in self.now) print }
     {
@@ -61,9 +60,9 @@ impl Block {
 
     /// The match at a start of a song, whose words from there on are these.
     pub fn match_at(&self, id: u32, start: u32, words: &[u32; 256]) -> Option<Match>
-        ensures { IsMatchAt self.now.prints id start words.now result }
+        ensures { IsMatchAt (query_in self.now) id start words.now result }
     {
-        if first_hit(words, &self.prints) < BLOCK_SIZE {
+        if self.first_hit(words) < BLOCK_SIZE {
             self.match_within(id, start, words)
         } else {
             None
@@ -73,33 +72,33 @@ impl Block {
     /// The match at a start of a song, where print `j` is the first that hits there.
     pub fn first_match_at(&self, j: usize, id: u32, start: u32, words: &[u32; 256]) -> Option<Match>
         requires { j < 256 }
-        ensures { IsFirstMatchAt self.now.prints j id start words.now result }
+        ensures { IsFirstMatchAt (query_in self.now) j id start words.now result }
     {
-        if first_hit(words, &self.prints) == j {
+        if self.first_hit(words) == j {
             self.match_within(id, start, words)
         } else {
             None
         }
     }
-}
 
-// Whether no bit differs outside the print's mask.
-fn is_hit(print: Print, word: u32) -> bool
-    ensures { result ≡ is_hit (print, word) }
-{
-    let difference = print.word ^ word;
-    difference & print.mask == difference
-}
-
-// The first print that differs from its word in no bit outside its mask, and 256 where there is none.
-fn first_hit(words: &[u32; 256], prints: &[Print; 256]) -> usize
-    ensures first { result ≡ position_or_len is_hit (zip prints.now words.now) }
-    ensures most { result ≤ 256 }
-{
-    for j in 0..BLOCK_SIZE {
-        if is_hit(prints[j], words[j]) {
-            return j;
-        }
+    // Whether a print of the block differs from a word in no bits but such as may be flipped.
+    fn is_hit(&self, print: Print, word: u32) -> bool
+        ensures { result ≡ is_hit (query_in self.now) (print, word) }
+    {
+        let difference = print.word ^ word;
+        difference & print.mask == difference
     }
-    BLOCK_SIZE
+
+    // The first print that hits the word beside it, and 256 where there is none.
+    fn first_hit(&self, words: &[u32; 256]) -> usize
+        ensures first { result ≡ first_hit (query_in self.now) words.now }
+        ensures most { result ≤ 256 }
+    {
+        for j in 0..BLOCK_SIZE {
+            if self.is_hit(self.prints[j], words[j]) {
+                return j;
+            }
+        }
+        BLOCK_SIZE
+    }
 }

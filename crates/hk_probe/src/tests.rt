@@ -1,5 +1,5 @@
 // Blocks against a few songs, by hand.
-ghost use Rattle.std.specs.Prelude.{◌≡◌, ◌≤◌, ◌<◌, IsTrue, IfOk};
+ghost use Rattle.std.specs.Prelude.{◌≡◌, ◌≤◌, ◌<◌, ◌^◌, IsTrue, IfOk};
 ghost use Rattle.hk_block.specs.Ring.{is_full};
 
 use crate::Alone;
@@ -10,6 +10,7 @@ use hk_table::SongBlock;
 use std::alloc::{AllocError, Global};
 use std::marker::Brand;
 use std::sync::ledger::{Blank, Ledger};
+use std::test::Fail;
 
 fn ring_of(alloc: Global, prints: &[Print; 256]) -> Result<BlockRing, NoMemory>
     ensures { IfOk result (λ ring. IsTrue (is_full ring)) }
@@ -56,26 +57,6 @@ fn even_song(alloc: Global, id: u32, word: u32, length: usize) -> Result<SongBlo
     Ok(SongBlock::new(id, vec![in alloc; word; length]?))
 }
 
-// Stages a song, and tells whether it is staged.
-fn adds(alone: &mut Alone, song: SongBlock) -> bool
-    ensures limits_stay { alone.new.limits ≡ alone.old.limits }
-{
-    alone.stage(Edit::Add(song)).is_ok()
-}
-
-// Stages that the song with this id goes, and tells whether it is staged.
-fn withdraws(alone: &mut Alone, id: u32) -> bool
-    ensures limits_stay { alone.new.limits ≡ alone.old.limits }
-{
-    alone.stage(Edit::Withdraw(id)).is_ok()
-}
-
-fn version_published(alone: &mut Alone) -> Result<u32, Refused>
-    ensures limits_stay { alone.new.limits ≡ alone.old.limits }
-{
-    alone.publish()
-}
-
 // Song 7 of the words 0 to 255.
 fn rising_song(alloc: Global) -> Result<SongBlock, AllocError> {
     let words: Vec<u32> = (0..256u32).collect(alloc)?;
@@ -83,6 +64,54 @@ fn rising_song(alloc: Global) -> Result<SongBlock, AllocError> {
         Ok(SongBlock::new(7, words))
     } else {
         even_song(alloc, 0, 0, 256)
+    }
+}
+
+// A catalogue for one thread, and room for all that a look in it finds.
+#[derive(Drop)]
+struct Bench {
+    alone: Alone,
+    scratch: Scratch,
+    ghost room: { alone.limits.positions ≤ scratch.room },
+}
+
+impl Bench {
+    // A bench for so many songs, words of all songs, and versions.
+    fn new(alloc: Global, songs: u32, positions: u32, versions: u32) -> Result<Bench, NoMemory>
+        requires enough { 256 ≤ positions }
+        requires most { positions ≤ 2 ^ 24 }
+        requires some { 1 ≤ songs }
+        requires few { songs ≤ 65536 }
+    {
+        Ok(Bench {
+            alone: Alone::new(alloc, songs, positions, versions)?,
+            scratch: Scratch::new(alloc, positions)?,
+        })
+    }
+
+    // Stages a song, and tells whether it is staged.
+    fn adds(&mut self, song: SongBlock) -> bool {
+        self.alone.stage(Edit::Add(song)).is_ok()
+    }
+
+    fn withdraw(&mut self, id: u32) -> Result<(), StageFault> {
+        self.alone.stage(Edit::Withdraw(id))
+    }
+
+    fn publish(&mut self) -> Result<u32, Refused> {
+        self.alone.publish()
+    }
+
+    // Looks for a ring's prints, and tells the version.
+    fn look(&mut self, ring: &BlockRing) -> u32
+        requires full { IsTrue (is_full ring.now) }
+    {
+        looked_up::<Brand>(&mut self.alone, ring, &mut self.scratch, Blank::new(1))
+    }
+
+    // What the last look found.
+    fn found(&self) -> &[Match] {
+        self.scratch.matches()
     }
 }
 
@@ -105,105 +134,62 @@ fn looked_up<L: Ledger>(
 }
 
 #[test]
-fn song_is_found_up_to_2867_errors_from_its_publish_on(rt: HostRuntime) -> Result<(), AllocError> {
-    let Ok(mut scratch) = Scratch::new(rt.alloc(), 300) else {
-        panic!(rt; "no memory");
-    };
-    let Ok(mut alone) = Alone::new(rt.alloc(), 2, 300, 1) else {
-        panic!(rt; "no memory");
-    };
-    let Ok(near) = ring_of(rt.alloc(), &prints_with(62)) else {
-        panic!(rt; "no memory");
-    };
-    let Ok(far) = ring_of(rt.alloc(), &prints_with(63)) else {
-        panic!(rt; "no memory");
-    };
+fn song_is_found_up_to_2867_errors_from_its_publish_on(rt: HostRuntime) -> Result<(), Fail> {
+    let mut bench = Bench::new(rt.alloc(), 2, 300, 1)?;
+    let near = ring_of(rt.alloc(), &prints_with(62))?;
+    let far = ring_of(rt.alloc(), &prints_with(63))?;
     let zeros = even_song(rt.alloc(), 7, 0, 256)?;
-    assert_eq!(rt; alone.stage(Edit::Add(zeros)), Ok(()));
+    assert!(rt; bench.adds(zeros));
     assert_eq!(rt;
-        alone.stage(Edit::Withdraw(8)),
+        bench.withdraw(8),
         Err(StageFault::Refused(Refused::Unknown(8)))
     );
-    assert_eq!(rt;
-        looked_up::<Brand>(&mut alone, &near, &mut scratch, Blank::new(1)),
-        0
-    );
-    assert!(rt; scratch.matches().is_empty());
-    assert_eq!(rt; alone.publish(), Ok(1));
-    assert_eq!(rt; alone.publish(), Err(Refused::VersionsFull(1)));
-    assert_eq!(rt;
-        looked_up::<Brand>(&mut alone, &near, &mut scratch, Blank::new(1)),
-        1
-    );
+    assert_eq!(rt; bench.look(&near), 0);
+    assert!(rt; bench.found().is_empty());
+    assert_eq!(rt; bench.publish(), Ok(1));
+    assert_eq!(rt; bench.publish(), Err(Refused::VersionsFull(1)));
+    assert_eq!(rt; bench.look(&near), 1);
     let found = Match {
         id: 7,
         start: 0,
         errors: 2867,
     };
-    assert_eq!(rt; scratch.matches(), [found].as_slice());
-    assert_eq!(rt;
-        looked_up::<Brand>(&mut alone, &far, &mut scratch, Blank::new(1)),
-        1
-    );
-    assert!(rt; scratch.matches().is_empty());
+    assert_eq!(rt; bench.found(), [found].as_slice());
+    assert_eq!(rt; bench.look(&far), 1);
+    assert!(rt; bench.found().is_empty());
     Ok(())
 }
 
 #[test]
-fn weak_bits_let_a_song_be_found(rt: HostRuntime) -> Result<(), AllocError> {
-    let Ok(mut scratch) = Scratch::new(rt.alloc(), 256) else {
-        panic!(rt; "no memory");
-    };
-    let Ok(mut alone) = Alone::new(rt.alloc(), 1, 256, 1) else {
-        panic!(rt; "no memory");
-    };
-    let Ok(strong) = ring_of(rt.alloc(), &flipped_prints(0)) else {
-        panic!(rt; "no memory");
-    };
-    let Ok(weak) = ring_of(rt.alloc(), &flipped_prints(0x80000000)) else {
-        panic!(rt; "no memory");
-    };
+fn weak_bits_let_a_song_be_found(rt: HostRuntime) -> Result<(), Fail> {
+    let mut bench = Bench::new(rt.alloc(), 1, 256, 1)?;
+    let strong = ring_of(rt.alloc(), &flipped_prints(0))?;
+    let weak = ring_of(rt.alloc(), &flipped_prints(0x80000000))?;
     let song = rising_song(rt.alloc())?;
-    assert!(rt; adds(&mut alone, song));
-    assert_eq!(rt; version_published(&mut alone), Ok(1));
-    assert_eq!(rt;
-        looked_up::<Brand>(&mut alone, &strong, &mut scratch, Blank::new(1)),
-        1
-    );
-    assert!(rt; scratch.matches().is_empty());
-    assert_eq!(rt;
-        looked_up::<Brand>(&mut alone, &weak, &mut scratch, Blank::new(1)),
-        1
-    );
+    assert!(rt; bench.adds(song));
+    assert_eq!(rt; bench.publish(), Ok(1));
+    assert_eq!(rt; bench.look(&strong), 1);
+    assert!(rt; bench.found().is_empty());
+    assert_eq!(rt; bench.look(&weak), 1);
     let found = Match {
         id: 7,
         start: 0,
         errors: 256,
     };
-    assert_eq!(rt; scratch.matches(), [found].as_slice());
+    assert_eq!(rt; bench.found(), [found].as_slice());
     Ok(())
 }
 
 #[test]
-fn each_of_45_starts_is_listed_once(rt: HostRuntime) -> Result<(), AllocError> {
-    let Ok(mut scratch) = Scratch::new(rt.alloc(), 900) else {
-        panic!(rt; "no memory");
-    };
-    let Ok(mut alone) = Alone::new(rt.alloc(), 3, 900, 1) else {
-        panic!(rt; "no memory");
-    };
-    let Ok(zeros) = ring_of(rt.alloc(), &even_prints(0)) else {
-        panic!(rt; "no memory");
-    };
+fn each_of_45_starts_is_listed_once(rt: HostRuntime) -> Result<(), Fail> {
+    let mut bench = Bench::new(rt.alloc(), 3, 900, 1)?;
+    let zeros = ring_of(rt.alloc(), &even_prints(0))?;
     let last = even_song(rt.alloc(), 9, 1, 256)?;
     let first = even_song(rt.alloc(), 3, 0, 300)?;
-    assert!(rt; adds(&mut alone, last));
-    assert!(rt; adds(&mut alone, first));
-    assert_eq!(rt; version_published(&mut alone), Ok(1));
-    assert_eq!(rt;
-        looked_up::<Brand>(&mut alone, &zeros, &mut scratch, Blank::new(1)),
-        1
-    );
+    assert!(rt; bench.adds(last));
+    assert!(rt; bench.adds(first));
+    assert_eq!(rt; bench.publish(), Ok(1));
+    assert_eq!(rt; bench.look(&zeros), 1);
     let starts: Vec<Match> = (0..45u32)
         .map(|start| Match {
             id: 3,
@@ -211,65 +197,48 @@ fn each_of_45_starts_is_listed_once(rt: HostRuntime) -> Result<(), AllocError> {
             errors: 0,
         })
         .collect(rt.alloc())?;
-    assert_eq!(rt; scratch.matches(), starts.as_slice());
+    assert_eq!(rt; bench.found(), starts.as_slice());
     Ok(())
 }
 
 // Publishes song 7 of zeros and song 8, which fill all room. Whether all answers are right.
-fn fills(alloc: Global, alone: &mut Alone) -> Result<bool, AllocError>
-    ensures limits_stay { IfOk result (λ right. alone.new.limits ≡ alone.old.limits) }
-{
+fn fills(alloc: Global, bench: &mut Bench) -> Result<bool, AllocError> {
     let zeros = even_song(alloc, 7, 0, 256)?;
     let others = even_song(alloc, 8, 0x55555555, 256)?;
-    let first = adds(alone, zeros);
-    let tight = alone.check_add(8, 257) == Err(Refused::PositionsFull(256, 257));
-    let second = adds(alone, others);
-    let full = alone.check_add(9, 256) == Err(Refused::SongsFull(2));
-    let published = version_published(alone) == Ok(1);
+    let first = bench.adds(zeros);
+    let tight = bench.alone.check_add(8, 257) == Err(Refused::PositionsFull(256, 257));
+    let second = bench.adds(others);
+    let full = bench.alone.check_add(9, 256) == Err(Refused::SongsFull(2));
+    let published = bench.publish() == Ok(1);
     Ok(first && tight && second && full && published)
 }
 
 // Stages that both songs go, and that song 7 comes with all words that there may be. Whether all answers are right.
-fn stages_another(alloc: Global, alone: &mut Alone) -> Result<bool, AllocError>
-    ensures limits_stay { IfOk result (λ right. alone.new.limits ≡ alone.old.limits) }
-{
+fn stages_another(alloc: Global, bench: &mut Bench) -> Result<bool, AllocError> {
     let ones = even_song(alloc, 7, 0xffffffff, 512)?;
-    let first = withdraws(alone, 7);
-    let gone = alone.check_withdraw(7) == Err(Refused::Unknown(7));
-    let second = withdraws(alone, 8);
-    let short = alone.check_add(7, 255) == Err(Refused::Short(255));
-    let free = alone.check_add(7, 513) == Err(Refused::PositionsFull(512, 513));
-    let again = adds(alone, ones);
-    let there = alone.check_add(7, 255) == Err(Refused::Duplicate(7));
+    let first = bench.withdraw(7) == Ok(());
+    let gone = bench.alone.check_withdraw(7) == Err(Refused::Unknown(7));
+    let second = bench.withdraw(8) == Ok(());
+    let short = bench.alone.check_add(7, 255) == Err(Refused::Short(255));
+    let free = bench.alone.check_add(7, 513) == Err(Refused::PositionsFull(512, 513));
+    let again = bench.adds(ones);
+    let there = bench.alone.check_add(7, 255) == Err(Refused::Duplicate(7));
     Ok(first && gone && second && short && free && again && there)
 }
 
 #[test]
-fn song_goes_and_its_id_comes_again_in_one_batch(rt: HostRuntime) -> Result<(), AllocError> {
-    let Ok(mut scratch) = Scratch::new(rt.alloc(), 512) else {
-        panic!(rt; "no memory");
-    };
-    let Ok(mut alone) = Alone::new(rt.alloc(), 2, 512, 2) else {
-        panic!(rt; "no memory");
-    };
-    let Ok(ones) = ring_of(rt.alloc(), &even_prints(0xffffffff)) else {
-        panic!(rt; "no memory");
-    };
-    assert!(rt; fills(rt.alloc(), &mut alone)?);
-    assert!(rt; stages_another(rt.alloc(), &mut alone)?);
-    assert_eq!(rt;
-        looked_up::<Brand>(&mut alone, &ones, &mut scratch, Blank::new(1)),
-        1
-    );
-    assert!(rt; scratch.matches().is_empty());
-    assert_eq!(rt; version_published(&mut alone), Ok(2));
-    assert_eq!(rt;
-        looked_up::<Brand>(&mut alone, &ones, &mut scratch, Blank::new(1)),
-        2
-    );
-    assert_eq!(rt; scratch.matches().len(), 257);
-    assert_eq!(rt; alone.publish(), Err(Refused::VersionsFull(2)));
-    assert_eq!(rt; alone.version(), 2);
+fn song_goes_and_its_id_comes_again_in_one_batch(rt: HostRuntime) -> Result<(), Fail> {
+    let mut bench = Bench::new(rt.alloc(), 2, 512, 2)?;
+    let ones = ring_of(rt.alloc(), &even_prints(0xffffffff))?;
+    assert!(rt; fills(rt.alloc(), &mut bench)?);
+    assert!(rt; stages_another(rt.alloc(), &mut bench)?);
+    assert_eq!(rt; bench.look(&ones), 1);
+    assert!(rt; bench.found().is_empty());
+    assert_eq!(rt; bench.publish(), Ok(2));
+    assert_eq!(rt; bench.look(&ones), 2);
+    assert_eq!(rt; bench.found().len(), 257);
+    assert_eq!(rt; bench.publish(), Err(Refused::VersionsFull(2)));
+    assert_eq!(rt; bench.alone.version(), 2);
     Ok(())
 }
 

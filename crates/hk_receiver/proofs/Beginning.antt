@@ -28,5 +28,5 @@ holds_nothing s segment first has = record {
   has = has;
 }
 
-pub no_blocks_yet : (s : Setting) → s.analysis ≡ full_analysis → 0 < s.block_size → blocks s [] ≡ []
+pub no_blocks_yet : (s : Setting) → s.analysis ≡ full_analysis → 0 < s.block.size → blocks s [] ≡ []
 no_blocks_yet s full some = none_yet s full some [] (hello_segments [] (omega arith))

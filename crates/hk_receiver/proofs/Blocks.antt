@@ -11,7 +11,7 @@ use Rattle.hk_station_wire.proofs.LastItems.{hello_segments}
 use Rattle.hk_station_wire.proofs.ItemLaws.{late_form}
 use Rattle.hk_receiver.specs.Segment.{prints_by}
 
-module _ (s : Setting) (full : s.analysis ≡ full_analysis) (some : 0 < s.block_size) where
+module _ (s : Setting) (full : s.analysis ≡ full_analysis) (some : 0 < s.block.size) where
   abbrev blocks_by : Form → List (List ℕ) → List Block
   blocks_by form parts = blocks_in s form.channels form.factor parts
 

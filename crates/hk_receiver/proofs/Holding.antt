@@ -27,7 +27,7 @@ same_last (a ∷ xs) (b ∷ ys) x y is =
     let found = same_last xs ys x y rest in
     (ap (λ z. z ∷ xs) first ∙ ap (λ zs. b ∷ zs) found.0, found.1)
 
-module _ (s : Setting) (full : s.analysis ≡ full_analysis) (some : 0 < s.block_size) (text : List ℕ) (b : ℕ) (segment : Segment) (h : HasSegments s segment text) where
+module _ (s : Setting) (full : s.analysis ≡ full_analysis) (some : 0 < s.block.size) (text : List ℕ) (b : ℕ) (segment : Segment) (h : HasSegments s segment text) where
   abbrev t : List ℕ
   t = text ++ b ∷ []
 

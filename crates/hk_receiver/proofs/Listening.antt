@@ -17,7 +17,7 @@ use Rattle.hk_receiver.specs.Segment.{prints_by}
 use Rattle.hk_receiver.proofs.Blocks.{grown_blocks}
 use Rattle.hk_receiver.proofs.Holding.{same_last}
 
-module _ (rules : Rules) (full : rules.setting.analysis ≡ full_analysis) (some : 0 < rules.setting.block_size) (form : Form) (front : List (List ℕ)) where
+module _ (rules : Rules) (full : rules.setting.analysis ≡ full_analysis) (some : 0 < rules.setting.block.size) (form : Form) (front : List (List ℕ)) where
   -- The text is heard in the form, without a fault, and its last segment goes on.
   pub record Sounds (text part : List ℕ) : Type 0 where
     pub no_fault : station_fault rules.bytes text ≡ None

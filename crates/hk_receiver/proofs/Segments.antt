@@ -19,11 +19,11 @@ use Rattle.hk_receiver.specs.Segment.{AreFor, HasBytes, Hears, Gains, prints_by}
 use Rattle.hk_receiver.proofs.RingBlocks.{ring_adds}
 
 -- another front and another ring that were made alike
-pub still_for : (s : Setting) {front more : Hearing} {ring next : Ring} → AreFor s front ring → more.flips ≡ front.flips → next.hop ≡ ring.hop → AreFor s more next
-still_for s set same_flips same_hop = record {
+pub still_for : (s : Setting) {front more : Hearing} {ring next : Ring} → AreFor s front ring → more.flips ≡ front.flips → next.block ≡ ring.block → AreFor s more next
+still_for s set same_flips same_rule = record {
   analysis = set.analysis;
   flips_are = set.flips_are ∙ sym same_flips;
-  cuts = record { block_size = set.cuts.block_size; hop_is = set.cuts.hop_is ∙ sym same_hop };
+  cuts = record { size = set.cuts.size; rule = set.cuts.rule ∙ sym same_rule };
 }
 
 pub none_by : (s : Setting) (form : Form) → s.analysis ≡ full_analysis → prints_by s form [] ≡ []
@@ -62,7 +62,7 @@ module _ (s : Setting) (form : Form) (old : Segment) (bytes : List ℕ) (has : H
   pub goes_on : (new : Segment) → new.ring ≡ old.ring → new.front.flips ≡ old.front.flips → prints_by s form (bytes ++ b ∷ []) ≡ prints_by s form bytes
       → ((form.channels == 0) ≡ false → Hears s form new (bytes ++ b ∷ [])) → HasBytes s form new (bytes ++ b ∷ [])
   goes_on new same_ring same_flips same hears = record {
-    set = still_for s has.set same_flips (ap (λ ring. ring.hop) same_ring);
+    set = still_for s has.set same_flips (ap (λ ring. ring.block) same_ring);
     prints = subst (λ ring. rings.HasLastPrints ring (prints_by s form (bytes ++ b ∷ []))) (sym same_ring) (subst (rings.HasLastPrints old.ring) (sym same) has.prints);
     hears = hears;
   }
@@ -85,7 +85,7 @@ module _ (s : Setting) (form : Form) (old : Segment) (bytes : List ℕ) (has : H
       hears = hears;
     };
     more_blocks = ap (blocks_of_segment s old.number) grown
-        ∙ ring_adds s old.number old.ring new.ring p prints has.set.cuts.block_size (sym has.set.cuts.hop_is) takes adds places has.prints
+        ∙ ring_adds s old.number old.ring new.ring p prints has.set.cuts.size (sym has.set.cuts.rule) takes adds places has.prints
         ∙ ap (λ c. blocks_of_segment s old.number prints ++ cond c (block_in old.number new.ring ∷ []) []) (sym is)
         ∙ ap (λ n. blocks_of_segment s old.number prints ++ cond full (block_in n new.ring ∷ []) []) (sym same_number);
   }
@@ -98,7 +98,7 @@ module _ (s : Setting) (form : Form) (old : Segment) (bytes more : List ℕ) (ha
   pub listens_on : (new : Segment) → new.ring ≡ old.ring → KeepsRules old.front new.front → fronts.HasAnalysed new.front (bytes ++ more)
       → prints_by s form (bytes ++ more) ≡ prints_by s form bytes → HasBytes s form new (bytes ++ more)
   listens_on new same_ring keeps taken same = record {
-    set = still_for s has.set keeps.0 (ap (λ ring. ring.hop) same_ring);
+    set = still_for s has.set keeps.0 (ap (λ ring. ring.block) same_ring);
     prints = subst (λ ring. rings.HasLastPrints ring (prints_by s form (bytes ++ more))) (sym same_ring) (subst (rings.HasLastPrints old.ring) (sym same) has.prints);
     hears = λ _. record {
       channels = keeps.1.0 ∙ (has.hears sound).channels;

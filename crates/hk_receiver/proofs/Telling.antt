@@ -26,8 +26,8 @@ module _ (rules : Rules) (old : Receiver) (text : List ℕ) (b : ℕ) (h : HasRe
   pub full : rules.setting.analysis ≡ full_analysis
   full = h.holds.has.set.analysis
 
-  pub some : 0 < rules.setting.block_size
-  some = let size : rules.setting.block_size ≡ BLOCK_SIZE = h.holds.has.set.cuts.block_size in omega (arith, size)
+  pub some : 0 < rules.setting.block.size
+  some = let size : rules.setting.block.size ≡ BLOCK_SIZE = h.holds.has.set.cuts.size in omega (arith, size)
 
   -- what the wire's item says of the text
   pub said : (i : Item) → i ≡ item_at (wires.limit_of old.wire) (text ++ b ∷ []) → Says i rules.bytes text b

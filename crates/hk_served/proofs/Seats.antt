@@ -34,8 +34,8 @@ use Rattle.hk_served.specs.Served.{gate_of, pair_of, DidInSeat, ServedSinceNew}
 use Rattle.hk_served.proofs.Known.{IsKnownIn, looks_known, known_later}
 
 module _ (rules : Rules) (station : Station) (new : IsHearing rules station unheard) where
-  some_prints : 0 < rules.setting.block_size
-  some_prints = let size : rules.setting.block_size ≡ BLOCK_SIZE = (new.receives refl).holds.has.set.cuts.block_size in omega (arith, size)
+  some_prints : 0 < rules.setting.block.size
+  some_prints = let size : rules.setting.block.size ≡ BLOCK_SIZE = (new.receives refl).holds.has.set.cuts.size in omega (arith, size)
 
   in_full : rules.setting.analysis ≡ full_analysis
   in_full = (new.receives refl).holds.has.set.analysis

@@ -10,7 +10,7 @@ use Rattle.hk_spec_monitor.specs.Setup.{Setup}
 abbrev pub setup_of_plan : Planned → Setup
 setup_of_plan plan = record {
   rules = record {
-    setting = record { analysis = full_analysis; flips = plan.flips; block_size = 256; hop = plan.hop };
+    setting = record { analysis = full_analysis; flips = plan.flips; block = record { size = 256; hop = plan.hop } };
     errors = MOST_ERRORS;
     limits = record { songs = plan.songs; positions = plan.positions; versions = plan.versions };
     stations = plan.stations;

@@ -10,17 +10,25 @@ use Rattle.hk_spec_matching.specs.Catalogue.{Song, Songs}
 pub record Query : Type 0 where
   pub prints : List Print
 
--- what is looked up for some prints
-abbrev pub query_for : List Print → Query
-query_for prints = record { prints = prints }
+-- the bits of a print's word that may be flipped when it is looked up, as the ones of a mask
+pub record Flips : Type 0 where
+  pub mask : ℕ
+
+-- the flips of one of a query's prints
+abbrev pub flips_of : Query → Print → Flips
+flips_of query print = record { mask = print.mask }
+
+-- whether all of these bits may be flipped
+abbrev pub may_flip : Flips → ℕ → Bool
+may_flip flips bits = bit_and bits flips.mask == bits
 
 -- the bits in which a print and a word differ
 abbrev pub difference : Print × ℕ → ℕ
 difference p = bit_xor p.0.word p.1
 
--- a hit: no bit differs outside the print's mask
-abbrev pub is_hit : Print × ℕ → Bool
-is_hit p = bit_and (difference p) p.0.mask == difference p
+-- a hit: a print and a word that differ in no bits but such as may be flipped
+abbrev pub is_hit : Query → Print × ℕ → Bool
+is_hit query p = may_flip (flips_of query p.0) (difference p)
 
 -- how many bits differ between the words of two lists
 abbrev pub differing_bits : List ℕ → List ℕ → ℕ
@@ -37,10 +45,10 @@ errors_of prints words = differing_bits (words_of prints) words
 unfoldable pub match_at : Query → ℕ × Song → ℕ × List ℕ → Option Match
 match_at query song start =
     let errors = errors_of query.prints start.1 in
-    if list_any is_hit (zip query.prints start.1) && nat_le errors song.1.limit
+    if list_any (is_hit query) (zip query.prints start.1) && nat_le errors song.1.limit
     then Some (record { id = song.0; start = start.0; errors = errors }) else None
 
--- a song's matches: a start is each place from which on the song has as many words as there are prints
+-- a song's matches: a start is each place from which on the song has at least as many words as there are prints
 unfoldable pub matches_of_song : Query → ℕ × Song → List Match
 matches_of_song query song =
     filter_map (match_at query song) (enumerate_from 0 (windows (length query.prints) 1 song.1.words))

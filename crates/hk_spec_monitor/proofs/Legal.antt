@@ -6,7 +6,7 @@ use Rattle.hk_spec_streams.specs.Blocks.{Block}
 use Rattle.hk_spec_matching.specs.Catalogue.{Songs, Edit, Journal, Limits, edited_by, version}
 use Rattle.hk_spec_matching.specs.Matching.{matches}
 use Rattle.hk_spec_settings.specs.Settings.{Rules}
-use Rattle.hk_spec_runs.specs.History.{Reported, Look, Event, Published, Looked, query_of, looks_of, looks_at, history, IsLegalFrom}
+use Rattle.hk_spec_runs.specs.History.{Reported, Look, Event, Published, Looked, looks_of, looks_at, history, IsLegalFrom}
 use Rattle.hk_spec_monitor.specs.Run.{Heard, songs_seen, stations_of, blocks_heard}
 use Rattle.hk_spec_monitor.specs.Laws.{LinesAreLegal}
 
@@ -17,7 +17,7 @@ some_of x y same = ap (λ o. unwrap_or o x) same
 abbrev AreAnswered : Songs → List Event → Type 0
 AreAnswered songs [] = ⊤
 AreAnswered songs (Published batch ∷ events) = ⊥
-AreAnswered songs (Looked look ∷ events) = (look.answer ≡ matches (query_of look.block) songs) × AreAnswered songs events
+AreAnswered songs (Looked look ∷ events) = (look.answer ≡ matches look.block.query songs) × AreAnswered songs events
 
 answered-append : (songs : Songs) (xs ys : List Event) → AreAnswered songs xs → AreAnswered songs ys → AreAnswered songs (xs ++ ys)
 answered-append songs [] ys first second = second
@@ -25,7 +25,7 @@ answered-append songs (Published batch ∷ xs) ys first second = absurd first
 answered-append songs (Looked look ∷ xs) ys first second = (first.0, answered-append songs xs ys first.1 second)
 
 -- at a version, of a look that was made at it
-answered-if : (songs : Songs) (c : Bool) (look : Look) → (c ≡ true → look.answer ≡ matches (query_of look.block) songs) → AreAnswered songs (cond c (Looked look ∷ []) [])
+answered-if : (songs : Songs) (c : Bool) (look : Look) → (c ≡ true → look.answer ≡ matches look.block.query songs) → AreAnswered songs (cond c (Looked look ∷ []) [])
 answered-if songs true look right = (right refl, tt)
 answered-if songs false look right = tt
 
@@ -38,7 +38,7 @@ after_looks limits songs (Looked look ∷ looks) rest answered legal = (answered
 -- the matches of a station's lines at one version
 abbrev ListsAt : ℕ → Songs → List Block → List Reported → Type 0
 ListsAt v songs blocks reported = (n : ℕ) (block : Block) (r : Reported) → slice_get blocks n ≡ Some block → slice_get reported n ≡ Some r → r.version ≡ v
-    → r.list ≡ matches (query_of block) songs
+    → r.list ≡ matches block.query songs
 
 module _ (v : ℕ) (songs : Songs) where
   abbrev look_of : ℕ → ℕ × (Block × Reported) → List Event
@@ -112,8 +112,8 @@ lines_are_legal rules run past lines =
     let answered : (w : ℕ) → w ≤ length journal → AreAnswered (version rules.limits journal w) (looks_at w stations) = λ w within.
     stations_answered w (version rules.limits journal w) rules 0 run.stations (λ n h at m block r at_block at_line is.
     (lines n h at).lists m block r at_block at_line
-    ∙ ap (λ u. matches (query_of block) (songs_seen rules journal (past n) u)) is
-    ∙ ap (λ c. matches (query_of block) (cond c (version rules.limits journal w) (unwrap_or (past n w) []))) (le-leb w (length journal) within)) in
+    ∙ ap (λ u. matches block.query (songs_seen rules journal (past n) u)) is
+    ∙ ap (λ c. matches block.query (cond c (version rules.limits journal w) (unwrap_or (past n w) []))) (le-leb w (length journal) within)) in
     let start : version rules.limits journal 0 ≡ [] = version_zero rules.limits journal in
     let from : IsLegalFrom rules.limits (version rules.limits journal 0) (flat_map (λ p. Published p.1 ∷ looks_at p.0 stations) (enumerate_from 1 journal)) =
     legal_from rules.limits (version rules.limits journal) stations (length journal) 0 journal (omega arith) (steps rules.limits journal 0 journal (λ n batch at. subst (λ m. slice_get journal m ≡ Some batch) (omega arith) at)) answered in

@@ -7,7 +7,7 @@ use Rattle.hk_spec_matching.specs.Catalogue.{Songs, Rise}
 use Rattle.hk_spec_matching.specs.Matching.{matches}
 use Rattle.hk_spec_lines.specs.Lines.{printed_text, line}
 use Rattle.hk_spec_settings.specs.Settings.{Rules}
-use Rattle.hk_spec_runs.specs.History.{Reported, query_of}
+use Rattle.hk_spec_runs.specs.History.{Reported}
 use Rattle.hk_spec_runs.specs.Replay.{lines_at, report_in}
 use Rattle.hk_spec_matching.proofs.Rising.{Rise-le}
 use Rattle.hk_spec_monitor.specs.Looks.{last_version}
@@ -17,7 +17,7 @@ use Rattle.hk_spec_monitor.proofs.Legal.{some_of}
 
 -- line by line
 same_lines : (songs : ℕ → Songs) (station k : ℕ) (blocks : List Block) (reported : List Reported)
-    → ((n : ℕ) (block : Block) (r : Reported) → slice_get blocks n ≡ Some block → slice_get reported n ≡ Some r → r.list ≡ matches (query_of block) (songs r.version))
+    → ((n : ℕ) (block : Block) (r : Reported) → slice_get blocks n ≡ Some block → slice_get reported n ≡ Some r → r.list ≡ matches block.query (songs r.version))
     → flat_map (λ p. printed_text (reported_line station p.0 p.1)) (zip (enumerate_from k blocks) reported) ≡ lines_at station songs (enumerate_from k blocks) (versions_of reported)
 same_lines songs station k [] [] lists = refl
 same_lines songs station k [] (r ∷ rs) lists = refl

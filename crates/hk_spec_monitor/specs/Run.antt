@@ -14,7 +14,7 @@ use Rattle.hk_spec_matching.specs.Matching.{matches}
 use Rattle.hk_spec_lines.specs.Lines.{Printed, Report, printed_text, reply_line}
 use Rattle.hk_spec_settings.specs.Settings.{Rules}
 use Rattle.hk_spec_runs.specs.OperatorState.{new_state, Replies, journal_of}
-use Rattle.hk_spec_runs.specs.History.{Reported, query_of, history, IsLegal}
+use Rattle.hk_spec_runs.specs.History.{Reported, history, IsLegal}
 use Rattle.hk_spec_monitor.specs.Looks.{versions_of_blocks, last_version, until_block}
 
 -- A station: the bytes taken from its link, the versions of its looks, what each whole line of its log reports, the front of a
@@ -101,7 +101,7 @@ module _ (rules : Rules) where
     pub next : slice_get (blocks_heard h) (length h.reported) ≡ Some block
     pub looks : length h.looks ≡ length (until_block (length h.reported) (moments_heard h))
     pub versions : versions_of_blocks (moments_heard h) h.looks ≡ versions_of h.reported ++ last_version h.looks ∷ []
-    pub line : printed_text (reported_line station (length h.reported, block) (record { version = last_version h.looks; list = matches (query_of block) (songs (last_version h.looks)) })) ≡ h.torn ++ missing
+    pub line : printed_text (reported_line station (length h.reported, block) (record { version = last_version h.looks; list = matches block.query (songs (last_version h.looks)) })) ≡ h.torn ++ missing
     pub proper : 0 < length missing
 
   -- A station has one line for each block of what it used, at the version of that block's look, and the line lists exactly the
@@ -109,7 +109,7 @@ module _ (rules : Rules) where
   -- line is torn.
   pub record HasLines (songs : ℕ → Songs) (station : ℕ) (h : Heard) : Type 0 where
     pub lists : (n : ℕ) (block : Block) (r : Reported) → slice_get (blocks_heard h) n ≡ Some block → slice_get h.reported n ≡ Some r
-        → r.list ≡ matches (query_of block) (songs r.version)
+        → r.list ≡ matches block.query (songs r.version)
     pub never_fall : Rise 0 h.looks (last_version h.looks)
     pub all : is_torn h.end ≡ false → length h.reported ≡ length (blocks_heard h)
     pub whole : is_torn h.end ≡ false → h.torn ≡ []

@@ -83,7 +83,7 @@ number_in rows n = option_map_or (λ text. digits_value 10 (without_leading_plus
 abbrev pub setup_in : List Row → Setup
 setup_in rows = record {
   rules = record {
-    setting = record { analysis = full_analysis; flips = number_in rows flips_option; block_size = 256; hop = number_in rows hop_option };
+    setting = record { analysis = full_analysis; flips = number_in rows flips_option; block = record { size = 256; hop = number_in rows hop_option } };
     errors = MOST_ERRORS;
     limits = record { songs = number_in rows songs_option; positions = number_in rows positions_option; versions = number_in rows versions_option };
     stations = number_in rows stations_option;

@@ -42,7 +42,7 @@ module _ (station : ℕ) (songs : ℕ → Songs) where
       ∙ ap (λ text. printed_text (report_in station v at x) ++ text) (lines_at-one v at is xs)
 
 -- no byte has no block
-pub no_blocks_before : (s : Setting) → 0 < s.block_size → blocks s [] ≡ []
+pub no_blocks_before : (s : Setting) → 0 < s.block.size → blocks s [] ≡ []
 unfolding segments packets pieces_within windows
 no_blocks_before s some =
     let one : segments [] ≡ [] ∷ [] = refl in
@@ -166,7 +166,7 @@ module _ (rules : Rules) where
       }
 
   -- the law of a station's log
-  pub writes_log : 0 < rules.setting.block_size → WritesLog rules
+  pub writes_log : 0 < rules.setting.block.size → WritesLog rules
   writes_log some station positions instants text answers steps past gives =
       let none : blocks rules.setting [] ≡ [] = no_blocks_before rules.setting some in
       let all : Logs station unheard instants past = logs station unheard instants past gives.known gives.blocks_stay in

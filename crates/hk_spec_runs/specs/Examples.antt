@@ -54,7 +54,7 @@ abbrev pub SONGS_7 : List Edit
 SONGS_7 = Add 7 (record { words = 5 ∷ 6 ∷ []; limit = 1 }) ∷ []
 
 abbrev pub BLOCK_5 : Block
-BLOCK_5 = record { segment = 0; first = 0; prints = record { word = 5; mask = 0 } ∷ record { word = 6; mask = 0 } ∷ [] }
+BLOCK_5 = record { segment = 0; first = 0; query = record { prints = record { word = 5; mask = 0 } ∷ record { word = 6; mask = 0 } ∷ [] } }
 
 abbrev pub FOUND_5 : List Match
 FOUND_5 = record { id = 7; start = 0; errors = 0 } ∷ []

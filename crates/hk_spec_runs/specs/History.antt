@@ -4,16 +4,12 @@ use Rattle.std.specs.List.{enumerate_from}
 use Rattle.hk_base.specs.declared.plain.Match.{Match}
 use Rattle.hk_spec_streams.specs.Blocks.{Block}
 use Rattle.hk_spec_matching.specs.Catalogue.{Edit, Journal, Limits, Songs, edited_by}
-use Rattle.hk_spec_matching.specs.Matching.{Query, query_for, matches}
+use Rattle.hk_spec_matching.specs.Matching.{matches}
 
 -- what a line of a station's log says: the version and the list
 pub record Reported : Type 0 where
   pub version : ℕ
   pub list : List Match
-
--- what is looked up for a block
-abbrev pub query_of : Block → Query
-query_of block = query_for block.prints
 
 -- a look: the station, the block's number, the block, and what was reported
 pub record Look : Type 0 where
@@ -46,7 +42,7 @@ abbrev pub IsLegalFrom : Limits → Songs → List Event → Type 0
 IsLegalFrom limits songs [] = Unit {0}
 IsLegalFrom limits songs (Published batch ∷ events) = IsLegalFrom limits (edited_by limits songs batch) events
 IsLegalFrom limits songs (Looked look ∷ events) =
-    (look.answer ≡ matches (query_of look.block) songs) × IsLegalFrom limits songs events
+    (look.answer ≡ matches look.block.query songs) × IsLegalFrom limits songs events
 
 abbrev pub IsLegal : Limits → List Event → Type 0
 IsLegal limits events = IsLegalFrom limits [] events

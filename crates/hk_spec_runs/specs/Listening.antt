@@ -8,7 +8,6 @@ use Rattle.hk_spec_streams.specs.Station.{station_met, station_seen, station_use
 use Rattle.hk_spec_streams.specs.Blocks.{Block, blocks}
 use Rattle.hk_spec_lines.specs.Lines.{printed_text}
 use Rattle.hk_spec_settings.specs.Settings.{Rules}
-use Rattle.hk_spec_runs.specs.History.{query_of}
 use Rattle.hk_spec_runs.specs.Replay.{Listener, heard, new_blocks, report_in, end_of, lines_at}
 
 -- a byte as it was heard: the version then, and that version's songs
@@ -39,7 +38,7 @@ lines_for station v songs numbered = flat_map printed_text (map (report_in stati
 
 -- the most steps of the looks of numbered blocks in these songs, with buckets for so many positions
 abbrev pub steps_for : ℕ → Songs → List (ℕ × Block) → ℕ
-steps_for positions songs numbered = sum_by (λ p. 257 * cost positions (query_of p.1) songs) numbered
+steps_for positions songs numbered = sum_by (λ p. 257 * cost positions p.1.query songs) numbered
 
 module _ (rules : Rules) where
   -- A listener's next byte, with the catalogue at version v; one that is over skips it.

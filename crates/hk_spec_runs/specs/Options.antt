@@ -67,7 +67,7 @@ OPTIONS = STATIONS ∷ MADE_STATIONS ∷ FLIPS ∷ HOP ∷ SONGS ∷ POSITIONS �
 -- the rules of a run, by the value of each option, with this option for its stations
 abbrev pub rules_by : (Choice → ℕ) → Choice → Rules
 rules_by value stations = record {
-  setting = record { analysis = full_analysis; flips = value FLIPS; block_size = 256; hop = value HOP };
+  setting = record { analysis = full_analysis; flips = value FLIPS; block = record { size = 256; hop = value HOP } };
   errors = MOST_ERRORS;
   limits = record { songs = value SONGS; positions = value POSITIONS; versions = value VERSIONS };
   stations = value stations;

@@ -16,7 +16,6 @@ use Rattle.hk_spec_streams.specs.Operator.{Command, operator_met, operator_wrong
 use Rattle.hk_spec_streams.specs.Records.{Arrival, ForStation, ForOperator, arrivals, input_seen}
 use Rattle.hk_spec_matching.specs.Catalogue.{Songs, Journal, version}
 use Rattle.hk_spec_matching.specs.Matching.{matches}
-use Rattle.hk_spec_runs.specs.History.{query_of}
 use Rattle.hk_spec_lines.specs.Lines.{Printed, Report, Replied, printed_text, station_line, operator_line}
 use Rattle.hk_spec_runs.specs.OperatorState.{OperatorState, new_state, at_end, refusals, answer, after}
 use Rattle.hk_spec_settings.specs.Settings.{Rules}
@@ -42,7 +41,7 @@ pub record Scene : Type 0 where
 -- the report of a station's block with its number, at a version with these songs
 abbrev pub report_in : ℕ → ℕ → Songs → ℕ × Block → Printed
 report_in station v songs numbered =
-    Report (head_of station numbered.0 numbered.1 v) (matches (query_of numbered.1) songs)
+    Report (head_of station numbered.0 numbered.1 v) (matches numbered.1.query songs)
 
 -- the report lines of a station's numbered blocks, each at its version, over the songs of each version
 abbrev pub lines_at : ℕ → (ℕ → Songs) → List (ℕ × Block) → List ℕ → List ℕ

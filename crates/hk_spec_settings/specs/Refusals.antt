@@ -48,4 +48,4 @@ stock_of songs id = record { taken = has_song songs id; songs = length songs; wo
 
 -- why a song is refused, in the order in which it is tested
 abbrev pub add_refusals : Rules → Songs → ℕ → ℕ → List (Bool × Reason)
-add_refusals rules songs id words = add_tests rules.limits rules.setting.block_size (stock_of songs id) words REASONS
+add_refusals rules songs id words = add_tests rules.limits rules.setting.block.size (stock_of songs id) words REASONS

@@ -14,7 +14,7 @@ use Rattle.hk_spec_sound.specs.Spectrum.{transform, energies}
 use Rattle.hk_spec_sound.specs.Prints.{Analysis, full_analysis, windowed, frame_energies, differences, print_of, prints_of_samples, prints_of_sound}
 use Rattle.hk_spec_sound.proofs.Silence.{windows-nil, samples_of-nil}
 use Rattle.hk_spec_streams.specs.Station.{segments, channels_of, factor_of, prints_of}
-use Rattle.hk_spec_streams.specs.Blocks.{Setting, Block, blocks, blocks_of_segment}
+use Rattle.hk_spec_streams.specs.Blocks.{Setting, Block, nth_block, blocks, blocks_of_segment}
 
 pub enumerate-append : {A : Type 0} (n : ℕ) (xs ys : List A) → enumerate_from n (xs ++ ys) ≡ enumerate_from n xs ++ enumerate_from (n + length xs) ys
 enumerate-append n [] ys = let same : n ≡ n + 0 = omega arith in ap (λ m. enumerate_from m ys) same
@@ -129,5 +129,5 @@ no_prints a full flips zero factor = refl
 no_prints a full flips (suc channels) factor = ap (λ of. prints_of_sound of flips (suc channels) factor []) full ∙ no_sound flips channels factor
 
 -- no print has no block
-pub no_blocks : (s : Setting) (n : ℕ) → 0 < s.block_size → blocks_of_segment s n [] ≡ []
-no_blocks s n some = ap (λ ws. map (λ w. record { segment = n; first = s.hop * w.0; prints = w.1 }) (enumerate_from 0 ws)) (windows-nil s.block_size s.hop some)
+pub no_blocks : (s : Setting) (n : ℕ) → 0 < s.block.size → blocks_of_segment s n [] ≡ []
+no_blocks s n some = ap (λ ws. map (nth_block s n) (enumerate_from 0 ws)) (windows-nil s.block.size s.block.hop some)

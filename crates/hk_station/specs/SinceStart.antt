@@ -32,14 +32,14 @@ module _ {V K : Type 0} (looker : lookers.Ghosts V) (sink : sinks.Ghosts K) wher
   -- What a station has written since it was new is the log of the blocks of the bytes that it used.
   abbrev pub LogSinceStart : Type 0
   LogSinceStart = (rules : Rules) (instants : List Instant) (old new : Station) (view view' : V) (log log' : K) (ticks ticks' : ℕ)
-      → 0 < rules.setting.block_size → IsHearing rules old unheard
+      → 0 < rules.setting.block.size → IsHearing rules old unheard
       → (heard : HasHeard looker sink instants old new view view' log log' ticks ticks')
       → IsLogSince rules old instants (looker.looker view').past heard.text
 
   -- Where a write failed, its line would have made the log of one block more: a proper front of that line was written.
   abbrev pub TornSinceStart : Type 0
   TornSinceStart = (rules : Rules) (instants : List Instant) (torn : Instant) (old new : Station) (view view' : V) (log log' : K) (ticks ticks' : ℕ)
-      → 0 < rules.setting.block_size → IsHearing rules old unheard
+      → 0 < rules.setting.block.size → IsHearing rules old unheard
       → (was : WasTorn looker sink instants torn old new view view' log log' ticks ticks')
       → IsLogSince rules old instants (looker.looker view').past was.heard.text
       × IsLogSince rules old (instants ++ torn ∷ []) (looker.looker view').past (was.heard.text ++ was.tears.line)

@@ -10,5 +10,5 @@ pub fn blocks_of_prefix(bytes: &[u8], n: usize, k: u32, hop: u32)
     requires flips { k ≤ 10 }
     requires some { 1 ≤ hop }
     requires most { hop ≤ 256 }
-    ensures { FrontHasFront (record { analysis = full_analysis; flips = k; block_size = 256; hop = hop }) n bytes.now }
+    ensures { FrontHasFront (record { analysis = full_analysis; flips = k; block = record { size = 256; hop = hop } }) n bytes.now }
 {}

@@ -61,7 +61,7 @@ impl Station {
         requires most { hop ≤ 256 }
         requires limit { limit ≤ MOST_BYTES }
         ensures unheard { IfOk result (λ station. (rules : Rules)
-            → rules.setting ≡ record { analysis = full_analysis; flips = flips; block_size = 256; hop = hop }
+            → rules.setting ≡ record { analysis = full_analysis; flips = flips; block = record { size = 256; hop = hop } }
             → rules.bytes ≡ limit → IsHearing rules station unheard) }
         ensures number { IfOk result (λ station. station_number station ≡ number) }
     {

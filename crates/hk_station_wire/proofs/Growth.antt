@@ -9,7 +9,7 @@ use Rattle.hk_spec_sound.specs.Windows.{windows}
 use Rattle.hk_spec_sound.specs.Prints.{Analysis, full_analysis}
 use Rattle.hk_spec_sound.proofs.Growing.{Grows, by_one, after}
 use Rattle.hk_spec_streams.specs.Station.{segments, sent_print, prints_of, channels_of, factor_of, station_met, station_fault, station_seen}
-use Rattle.hk_spec_streams.specs.Blocks.{Setting, Block, blocks, blocks_of_segment}
+use Rattle.hk_spec_streams.specs.Blocks.{Setting, Block, nth_block, blocks, blocks_of_segment}
 use Rattle.hk_spec_streams.proofs.Optional.{none_or_some}
 use Rattle.hk_spec_streams.proofs.NextFault.{seen_of-all, fault_of-none, fault_of-some, fault_of-stays}
 use Rattle.hk_spec_streams.proofs.GrowingBlocks.{SameForm, prints_in, blocks-last, blocks-begun, blocks-grown, no_prints, no_blocks}
@@ -25,11 +25,10 @@ prints_grow a flips (suc channels) factor = sound_prints a flips (suc channels) 
 -- more prints have more blocks
 segment_grows : (s : Setting) (n : ℕ) → Grows (blocks_of_segment s n)
 segment_grows s n =
-    let made : ℕ × List Print → Block = λ w. record { segment = n; first = s.hop * w.0; prints = w.1 } in
-    after (map made) (λ prints. enumerate_from 0 (windows s.block_size s.hop prints)) (mapped made)
-    (after (enumerate_from 0) (windows s.block_size s.hop) (numbered (List Print) 0) (windowed_by Print s.block_size s.hop))
+    after (map (nth_block s n)) (λ prints. enumerate_from 0 (windows s.block.size s.block.hop prints)) (mapped (nth_block s n))
+    (after (enumerate_from 0) (windows s.block.size s.block.hop) (numbered (List Print) 0) (windowed_by Print s.block.size s.block.hop))
 
-module _ (s : Setting) (full : s.analysis ≡ full_analysis) (some : 0 < s.block_size) where
+module _ (s : Setting) (full : s.analysis ≡ full_analysis) (some : 0 < s.block.size) where
   none_in : (text : List ℕ) (n : ℕ) → blocks_of_segment s n (prints_in s text []) ≡ []
   none_in text n = ap (blocks_of_segment s n) (no_prints s.analysis full s.flips (channels_of text) (factor_of text)) ∙ no_blocks s n some
 
@@ -70,7 +69,7 @@ seen_grows limit = by_one (station_seen limit) (λ text b. elim (none_or_some (s
 ])
 
 -- the blocks of a front of a text begin those of all of it
-pub front_has_front : (s : Setting) → s.analysis ≡ full_analysis → 0 < s.block_size → (limit n : ℕ) (text : List ℕ)
+pub front_has_front : (s : Setting) → s.analysis ≡ full_analysis → 0 < s.block.size → (limit n : ℕ) (text : List ℕ)
     → IsPrefix (blocks s (station_seen limit (take n text))) (blocks s (station_seen limit text))
 unfolding Grows
 front_has_front s full some limit n text =

@@ -70,7 +70,7 @@ skip_to p (suc gap) a n b rest count start none =
 
 -- a subset is the first of those from it on
 first_from : (m s rest : ℕ) → IsSubset s m → m + 1 - s ≡ suc rest
-    → subsets_from m (Some s) ≡ s ∷ filter (λ u. bit_and u m == u) (range_with_len (s + 1) rest)
+    → subsets_from (record { mask = m }) (Some s) ≡ s ∷ filter (λ u. bit_and u m == u) (range_with_len (s + 1) rest)
 unfolding subsets_from
 first_from m s rest inside count =
     let p : ℕ → Bool = λ u. bit_and u m == u in
@@ -78,17 +78,17 @@ first_from m s rest inside count =
     ap (λ n. filter p (range_with_len s n)) count
     ∙ ap (λ passes. cond passes (s ∷ filter p (range_with_len (s + 1) rest)) (filter p (range_with_len (s + 1) rest))) kept
 
-pub subsets_from-first : (m : ℕ) → subsets_from m (Some 0) ≡ subsets m
+pub subsets_from-first : (m : ℕ) → subsets_from (record { mask = m }) (Some 0) ≡ subsets (record { mask = m })
 unfolding subsets_from subsets
 subsets_from-first m = let p : ℕ → Bool = λ u. bit_and u m == u in ap (λ n. filter p (range_with_len 0 n)) (omega arith)
 
-pub subsets_from-last : (m s : ℕ) → IsSubset s m → m ≤ s → subsets_from m (Some s) ≡ s ∷ subsets_from m None
+pub subsets_from-last : (m s : ℕ) → IsSubset s m → m ≤ s → subsets_from (record { mask = m }) (Some s) ≡ s ∷ subsets_from (record { mask = m }) None
 unfolding subsets_from
 subsets_from-last m s inside last = first_from m s 0 inside (omega (arith, and_le_r s m))
 
 -- the next subset leaves out what d - 1 has of the mask, where this one leaves out d
 pub subsets_from-next : (w m s t : ℕ) → m < 2 ^ w → IsSubset s m → s < m → t ≡ m - bit_and (m - s - 1) m
-    → (subsets_from m (Some s) ≡ s ∷ subsets_from m (Some t)) × IsSubset t m
+    → (subsets_from (record { mask = m }) (Some s) ≡ s ∷ subsets_from (record { mask = m }) (Some t)) × IsSubset t m
 unfolding subsets_from
 subsets_from-next w m s t m_low inside less is =
     let p : ℕ → Bool = λ u. bit_and u m == u in

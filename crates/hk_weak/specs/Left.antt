@@ -1,8 +1,9 @@
 -- What is left of the subsets of a mask.
-use Rattle.std.specs.Prelude.{ℕ, ◌+◌, ◌-◌, ◌==◌, bit_and, Option, Some, None, List, [], filter}
+use Rattle.std.specs.Prelude.{ℕ, ◌+◌, ◌-◌, Option, Some, None, List, [], filter}
 use Rattle.std.specs.List.{range_with_len}
+use Rattle.hk_spec_matching.specs.Matching.{Flips, may_flip}
 
--- the subsets of a mask from this one on, as rising numbers
-unfoldable pub subsets_from : ℕ → Option ℕ → List ℕ
-subsets_from mask None = []
-subsets_from mask (Some subset) = filter (λ s. bit_and s mask == s) (range_with_len subset (mask + 1 - subset))
+-- the bits that may be flipped together, from this subset on, as rising numbers
+unfoldable pub subsets_from : Flips → Option ℕ → List ℕ
+subsets_from flips None = []
+subsets_from flips (Some subset) = filter (may_flip flips) (range_with_len subset (flips.mask + 1 - subset))

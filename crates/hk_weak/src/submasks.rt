@@ -22,7 +22,7 @@ impl Model for Submasks {
 
     ghost Value = { List ℕ };
 
-    ghost view = { λ s. subsets_from s.mask s.next };
+    ghost view = { λ s. subsets_from (record { mask = s.mask }) s.next };
 
     ghost invariant = { λ s. ForSome s.next (λ subset. bit_and subset s.mask ≡ subset) };
 }
@@ -30,7 +30,7 @@ impl Model for Submasks {
 impl Submasks {
     /// The subsets of this mask, 2^n for n bits.
     pub fn new(mask: u32) -> Submasks
-        ensures { result ≡ subsets mask }
+        ensures { result ≡ subsets (record { mask = mask }) }
     {
         Submasks {
             mask,
@@ -57,7 +57,7 @@ impl Iterator for Submasks {
 // leaves out.
 fn subset_after(mask: u32, subset: u32) -> Option<u32>
     requires { bit_and subset mask ≡ subset }
-    ensures next { subsets_from mask (Some subset) ≡ subset ∷ subsets_from mask result }
+    ensures next { subsets_from (record { mask = mask }) (Some subset) ≡ subset ∷ subsets_from (record { mask = mask }) result }
     ensures inside { ForSome result (λ next. bit_and next mask ≡ next) }
 {
     let left_out = mask - subset;

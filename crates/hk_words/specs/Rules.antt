@@ -14,7 +14,7 @@ use Rattle.hk_words.specs.declared.rules.PrintRules.{PrintRules}
 -- the rules of a run, with what no option changes
 abbrev pub rules_meant : RunRules → Rules
 rules_meant r = record {
-  setting = record { analysis = full_analysis; flips = r.flips; block_size = 256; hop = r.hop };
+  setting = record { analysis = full_analysis; flips = r.flips; block = record { size = 256; hop = r.hop } };
   errors = MOST_ERRORS;
   limits = record { songs = r.songs; positions = r.positions; versions = r.versions };
   stations = r.stations;

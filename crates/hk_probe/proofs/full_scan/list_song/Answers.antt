@@ -1,14 +1,15 @@
 use Rattle.std.proofs.Common.{◌≡◌, ◌++◌, [], ◌∷◌, sym, ◌∙◌, ap, arith, length, Some, None, length-append}
 use Rattle.std.proofs.lemmas.List.{append-nil}
-use Rattle.hk_spec_matching.specs.Matching.{Query, match_at, query_for}
+use Rattle.hk_spec_matching.specs.Matching.{Query, match_at}
 use Rattle.hk_catalogue.specs.Shelves.{entry_of, song_of}
+use Rattle.hk_probe.specs.Comparison.{query_in}
 use Rattle.hk_probe.proofs.Starts.{listed_more, start_words, starts_of}
 use Rattle.hk_probe.proofs.full_scan.list_song.Goals.{in-Some, in_default}
 use Rattle.hk_probe.proofs.full_scan.list_song.Goals as goal
 
 pub loop-start-preserved : goal.loop-start-preserved
 loop-start-preserved g c =
-    let query : Query = query_for c.args.block.now.prints in
+    let query : Query = query_in c.args.block.now in
     let words = c.args.song.now.words in
     let here = c.window.ensures.words ∙ start_words query words c.loop-start.start (omega arith) in
     let id_is = ap (λ n. match_at query (n, song_of words) (c.loop-start.start, c.window.new.into)) c.id.ensures in
@@ -35,6 +36,6 @@ loop-start-preserved g c =
 
 pub returns-clause-list : goal.returns-clause-list
 returns-clause-list g c =
-    let query : Query = query_for c.args.block.now.prints in
+    let query : Query = query_in c.args.block.now in
     c.loop-start.invariant.listed
     ∙ ap (λ xs. c.args.scratch.now.matches ++ xs) (starts_of query (entry_of c.args.song.now) c.loop-start.start (omega arith) (omega arith) (omega arith))

@@ -3,10 +3,11 @@ use Rattle.std.proofs.lemmas.List.{take_all}
 use Rattle.std.proofs.lemmas.List.Sums.{sum_by_more}
 use Rattle.hk_spec_matching.specs.Catalogue.{Songs}
 use Rattle.hk_spec_matching.specs.Cost.{cost}
-use Rattle.hk_spec_matching.specs.Matching.{Query, matches, query_for}
+use Rattle.hk_spec_matching.specs.Matching.{Query, matches}
 use Rattle.hk_block.specs.Ring.{query_of}
 use Rattle.hk_catalogue.specs.Shelves.{songs_of}
 use Rattle.hk_catalogue.proofs.Shelving.{rising-songs}
+use Rattle.hk_probe.specs.Comparison.{query_in}
 use Rattle.hk_probe.specs.Search.{nodes_by}
 use Rattle.hk_probe.proofs.Visits.{nothing_matches, put_print, print_fits, all_matches, nodes_are_cost}
 use Rattle.hk_probe.proofs.table_search.look.Goals as goal
@@ -27,7 +28,7 @@ loop-j-init g c = record {
 
 pub look_up_print-requires : goal.look_up_print-requires
 look_up_print-requires g c =
-    let query : Query = query_for c.of-block.result.prints in
+    let query : Query = query_in c.of-block.result in
     let many : length query.prints ≡ 256 = omega arith in
     record {
       shelved = c.count.ensures.shelved;
@@ -38,7 +39,7 @@ look_up_print-requires g c =
 
 pub loop-j-preserved : goal.loop-j-preserved
 loop-j-preserved g c =
-    let query : Query = query_for c.of-block.result.prints in
+    let query : Query = query_in c.of-block.result in
     let songs : Songs = songs_of c.args.catalogue.now in
     let many : length query.prints ≡ 256 = omega arith in
     let low : c.loop-j.j < length query.prints = omega (arith, many, c.loop-j-test.true) in
@@ -55,7 +56,7 @@ loop-j-preserved g c =
 
 pub returns : goal.returns
 returns g c =
-    let query : Query = query_for c.of-block.result.prints in
+    let query : Query = query_in c.of-block.result in
     let songs : Songs = songs_of c.args.catalogue.now in
     let positions = c.args.catalogue.now.store.positions in
     let many : length query.prints ≡ 256 = omega arith in

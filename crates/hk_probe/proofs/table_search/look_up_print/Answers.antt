@@ -4,20 +4,20 @@ use Rattle.std.proofs.lemmas.List.Sums.{sum_by-cons}
 use Rattle.hk_base.specs.declared.plain.Match.{Match}
 use Rattle.hk_base.specs.declared.plain.Print.{Print}
 use Rattle.hk_spec_matching.specs.Catalogue.{Songs}
-use Rattle.hk_spec_matching.specs.Cost.{subsets}
-use Rattle.hk_spec_matching.specs.Matching.{Query, query_for}
+use Rattle.hk_spec_matching.specs.Matching.{Query}
 use Rattle.hk_catalogue.specs.Shelves.{songs_of}
+use Rattle.hk_probe.specs.Comparison.{query_in, subsets_for}
 use Rattle.hk_probe.specs.Search.{found_of, found_by, nodes_of, numbered, HaveSame}
 use Rattle.hk_probe.proofs.Visits.{put_piece, piece_fits, by_subsets, nodes_by_subsets}
 use Rattle.hk_probe.proofs.table_search.look_up_print.Goals as goal
 
 pub loop-subset-init : goal.loop-subset-init
 loop-subset-init g c =
-    let query : Query = query_for c.args.block.now.prints in
+    let query : Query = query_in c.args.block.now in
     let songs : Songs = songs_of c.args.catalogue.now in
     let print : ℕ × Print = numbered c.args.j c.args.block.now.prints in
     let old : List Match = c.args.scratch.now.matches in
-    let all : c.into_iter-subset-iterator.result ≡ subsets print.1.mask = c.into_iter-subset-iterator.ensures.into_iter_gives ∙ c.subsets-subset-items.ensures in
+    let all : c.into_iter-subset-iterator.result ≡ subsets_for query print.1 = c.into_iter-subset-iterator.ensures.into_iter_gives ∙ c.subsets-subset-items.ensures in
     let gives : ℕ → List Match = λ s. found_of query songs c.args.j (bit_xor print.1.word s) in
     record {
       can = tt;
@@ -33,7 +33,7 @@ loop-subset-init g c =
 
 pub look_up_word-requires-clause-space : goal.look_up_word-requires-clause-space
 look_up_word-requires-clause-space g c =
-    let query : Query = query_for c.args.block.now.prints in
+    let query : Query = query_in c.args.block.now in
     let songs : Songs = songs_of c.args.catalogue.now in
     let print : ℕ × Print = numbered c.args.j c.args.block.now.prints in
     let gives : ℕ → List Match = λ s. found_of query songs c.args.j (bit_xor print.1.word s) in
@@ -48,7 +48,7 @@ look_up_word-requires-clause-space g c =
 
 pub loop-subset-preserved : goal.loop-subset-preserved
 loop-subset-preserved g c =
-    let query : Query = query_for c.args.block.now.prints in
+    let query : Query = query_in c.args.block.now in
     let songs : Songs = songs_of c.args.catalogue.now in
     let print : ℕ × Print = numbered c.args.j c.args.block.now.prints in
     let gives : ℕ → List Match = λ s. found_of query songs c.args.j (bit_xor print.1.word s) in
@@ -74,7 +74,7 @@ loop-subset-preserved g c =
 
 pub returns : goal.returns
 returns g c =
-    let query : Query = query_for c.args.block.now.prints in
+    let query : Query = query_in c.args.block.now in
     let songs : Songs = songs_of c.args.catalogue.now in
     let print : ℕ × Print = numbered c.args.j c.args.block.now.prints in
     let gives : ℕ → List Match = λ s. found_of query songs c.args.j (bit_xor print.1.word s) in

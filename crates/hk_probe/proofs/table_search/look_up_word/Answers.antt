@@ -1,7 +1,8 @@
 use Rattle.std.proofs.Common.{List, [], ◌∷◌, ◌++◌, filter_map, Some, sym, ◌∙◌, refl, arith, length-append}
 use Rattle.hk_base.specs.declared.plain.Match.{Match}
-use Rattle.hk_spec_matching.specs.Matching.{Query, query_for}
+use Rattle.hk_spec_matching.specs.Matching.{Query}
 use Rattle.hk_catalogue.specs.Shelves.{songs_of}
+use Rattle.hk_probe.specs.Comparison.{query_in}
 use Rattle.hk_probe.specs.Search.{found_at, found_of}
 use Rattle.hk_probe.proofs.Visits.{word_gives, few_places, first_left, put_more, as_many}
 use Rattle.hk_probe.proofs.table_search.look_up_word.Goals as goal
@@ -10,7 +11,7 @@ pub loop-place-init : goal.loop-place-init
 loop-place-init g c =
     let shelves = c.args.catalogue.now in
     record {
-      listed = word_gives (query_for c.args.block.now.prints) shelves c.args.j c.args.word c.walk-walk.result.places c.args.scratch.now.matches
+      listed = word_gives (query_in c.args.block.now) shelves c.args.j c.args.word c.walk-walk.result.places c.args.scratch.now.matches
           c.walk-walk.ensures.places c.requires.shelved;
       room = refl;
       ticks = omega (arith, c.walk-walk.ensures.nodes, few_places shelves c.args.word c.walk-walk.result.places c.walk-walk.ensures.places c.requires.shelved);
@@ -19,7 +20,7 @@ loop-place-init g c =
 pub put-requires : goal.put-requires
 put-requires g c = record {
   space =
-      let query : Query = query_for c.args.block.now.prints in
+      let query : Query = query_in c.args.block.now in
       let store = c.args.catalogue.now.store in
       let j = c.args.j in
       let m = c.in-Some-found_at.found in

@@ -4,7 +4,7 @@ use Rattle.hk_receiver.proofs.receiver.Receiver.new.Goals as goal
 
 pub returns : goal.returns
 returns c = λ rules set limit_is.
-    let some : 0 < rules.setting.block_size = omega (arith, set.cuts.block_size) in
+    let some : 0 < rules.setting.block.size = omega (arith, set.cuts.size) in
     record {
       limit = c.new.ensures.limit ∙ sym limit_is;
       bytes = c.new.ensures.nothing_taken;

@@ -8,6 +8,6 @@ unfolding subsets_from
 returns-in_err-subset-clause-steps c =
     let left = c.args.self.now in
     let mask = c.self.inside.mask in
-    let nothing : left ≡ [] = sym c.self.view_is ∙ ap (subsets_from mask) c.in_err-subset.was in
+    let nothing : left ≡ [] = sym c.self.view_is ∙ ap (subsets_from (record { mask = mask })) c.in_err-subset.was in
     let P : Option ℕ → Type 0 = λ r. YieldsFirst {S = List ℕ} {A = ℕ} (λ s. s) left r left in
     subst P (sym c.from_residual.ensures) (nothing, nothing)
