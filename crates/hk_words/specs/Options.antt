@@ -1,7 +1,11 @@
 -- Options word by word.
 use Rattle.std.specs.Prelude.{ℕ, Bool, false, true, not, ◌&&◌, if◌then◌else◌, List, [], ◌∷◌, map, Option, Some, None, is_some, String, string_bytes, bytes_eq}
-use Rattle.hk_spec_runs.specs.Options.{Choice, fits}
+use Rattle.hk_spec_runs.specs.Options.{Verb, Choice, options_for, fits}
 use Rattle.hk_spec_runs.specs.Words.{is_given, value_of}
+
+-- the options that a command takes, as one name where the rows of their table don't matter
+unfoldable pub taken_by : Verb → List Choice
+taken_by verb = options_for verb
 
 -- the words' bytes
 abbrev pub word_texts : {A : Type 0} → List (String A) → List (List ℕ)

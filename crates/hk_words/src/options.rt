@@ -1,9 +1,9 @@
 // Options in the words: two words each, a name and a number.
 ghost use Rattle.std.specs.Prelude.{◌≡◌, ◌≤◌, true, map, filter, option_copied};
-ghost use Rattle.hk_spec_runs.specs.Options.{fits, is_taken, options_for};
+ghost use Rattle.hk_spec_runs.specs.Options.{fits, is_taken};
 ghost use Rattle.hk_spec_runs.specs.Words.{is_given, given_or, default_of, value_of};
 ghost use Rattle.hk_words.specs.Choices.{verb_meant, default_meant, choice_of, highest};
-ghost use Rattle.hk_words.specs.Options.{word_texts, pairs_of, behind, are_options, value_fits};
+ghost use Rattle.hk_words.specs.Options.{taken_by, word_texts, pairs_of, behind, are_options, value_fits};
 
 use crate::choice::{Choice, Default, Verb};
 use crate::number::read_number;
@@ -11,12 +11,13 @@ use crate::rules::OPTIONS;
 
 /// Whether the words are options that a command takes, each with a value that it may have, and none twice.
 pub fn are_options(words: &[String], verb: Verb) -> bool
-    ensures { result ≡ are_options (options_for (verb_meant verb)) (word_texts words.now) }
+    ensures { result ≡ are_options (taken_by (verb_meant verb)) (word_texts words.now) }
 {
     let mut rest = words;
     while let [name, number, further @ ..] = rest {
-        let is_given = is_given(&OPTIONS, verb, name.as_str(), number.as_str());
-        if !is_given || number_behind(further, name.as_str()).is_some() {
+        if !is_option(verb, name.as_str(), number.as_str())
+            || number_behind(further, name.as_str()).is_some()
+        {
             return false;
         }
         rest = further;
@@ -56,7 +57,14 @@ fn given_or(words: &[String], name: &str, number: u64) -> u64
     }
 }
 
-// Whether a name and a number are one of the options that a command takes, with a value that it may have.
+// Whether a name and a number are an option that a command takes, with a value that it may have.
+fn is_option(verb: Verb, name: &str, number: &str) -> bool
+    ensures { result ≡ is_given (taken_by (verb_meant verb)) (name.now, number.now) }
+{
+    is_given(&OPTIONS, verb, name, number)
+}
+
+// Whether a name and a number are one of these options, where a command takes it, with a value that it may have.
 fn is_given(options: &[Choice], verb: Verb, name: &str, number: &str) -> bool
     ensures { result ≡ is_given (filter (is_taken (verb_meant verb)) (map choice_of options.now)) (name.now, number.now) }
 {
