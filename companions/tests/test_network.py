@@ -184,7 +184,7 @@ class Sends(InFolder):
     def test_a_monitor_that_is_not_there_is_one_line(self):
         with socket.create_server(("127.0.0.1", 0)) as free:
             port = free.getsockname()[1]
-        status, _, err = hk("send", self.path("0.wav"), "--to", f"127.0.0.1:{port}")
+        status, _, err = hk("send", self.path("0.wav"), "--to", f"127.0.0.1:{port}", *self.form)
         self.assertEqual((status, err.count("\n")), (1, 1))
         self.assertIn(f"127.0.0.1:{port} takes no station", err)
 
